@@ -16,11 +16,26 @@ VIEWED = re.compile(r"impl(?:<.*>)? Model for (\w+)")
 GHOST = re.compile(r"    ghost (?!use )")
 CLAUSE = re.compile(r"    (?:ensures|requires) (?:(\w+) )?\{")
 WORD = re.compile(r"[^\W\d]\w*")
-USED = re.compile(r"^ *(?:pub )?(?:ghost )?use ([^;{\s]+?)(?:(?:\.|::)\{([^}]*)\})?"
+USED = re.compile(r"^ *(?:pub )?(?:ghost )?use ([^;{\s]+?)(?:(?:\.|::)\{((?s:.*?))\}(?=;?$))?"
                   r"(?: as ([^;\s]+))?;?$", re.M)
 FUNCTION = r' *pub (?:extern "C" )?fn {}[<(]'  # of a name
 ROOT = os.path.dirname(os.path.dirname(os.path.realpath(__file__)))
 COMMENTS = ("--", "//", "#[")
+
+
+def grouped(text, inner=()):
+    """The names of a group of an import, each with its path in it: `a, B.{c, D.e}`."""
+    depth, names = 0, ""
+    for sign in text:
+        depth += (sign == "{") - (sign == "}")
+        names += "\n" if sign == "," and depth == 0 else " " if sign == "\n" else sign
+    for head, brace, rest in (part.strip().partition("{") for part in names.split("\n")):
+        if brace:
+            yield from grouped(rest[:-1], (*inner, *head.rstrip(".").split(".")))
+        elif head:
+            plain, as_, other = head.partition(" as ")
+            *more, name = plain.split(".") if plain.strip(".") else [plain]
+            yield (*inner, *more), name + as_ + other
 
 
 class Definition:
@@ -58,9 +73,9 @@ class File:
             self.imports[alias] = (path, None)
         elif not items:
             self.imports[path[-1]] = (path[:-1], path[-1])
-        for item in filter(None, map(str.strip, items.split(","))):
+        for inner, item in grouped(items):
             name, _, other = item.partition(" as ")
-            self.imports[other or name] = (path, name)
+            self.imports[other or name] = ([*path, *inner], name)
 
     def add(self, name, lines):
         """Adds lines to a definition, and the comment directly above them."""

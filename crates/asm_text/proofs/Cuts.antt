@@ -6,9 +6,7 @@ use Rattle.std.specs.List.{position_or_len, slice_split}
 use Rattle.std.proofs.lemmas.Bool.{ltb-false}
 use Rattle.std.proofs.lemmas.List.Sums.{prefix_len-le-length, fails_before_first}
 use Rattle.std.proofs.lemmas.List.Splits.{slice_split_first, slice_split_none}
-use Rattle.asm_text.specs.declared.token.Token.{Token}
-use Rattle.asm_text.specs.declared.token.Token.TheVariants.{Comma}
-use Rattle.asm_text.specs.Operand.{is_comma}
+use Rattle.asm_text.specs.{declared.token.Token.{Token, TheVariants.Comma}, Operand.is_comma}
 
 by_test : (n most : ℕ) (test : Bool) → nat_lt n most ≡ test → n ≤ most
     → unwrap_or (cond test (Some n) None) most ≡ n

@@ -4,15 +4,10 @@ use Rattle.std.proofs.Math.ListN.{drop_of_length-le}
 use Rattle.std.proofs.lemmas.List.{drop-drop, take_rest}
 use Rattle.std.specs.Result.{is_ok}
 use Rattle.std.specs.declared.alloc.AllocError.{AllocError}
-use Rattle.text_scan.specs.declared.fault_kind.FaultKind.{FaultKind}
-use Rattle.text_scan.specs.declared.fault_kind.FaultKind.TheVariants.{Syntax}
-use Rattle.text_scan.specs.declared.word_fault.WordFault.{WordFault}
-use Rattle.asm_text.specs.declared.piece.Piece.{Piece}
+use Rattle.text_scan.specs.{declared.{fault_kind.FaultKind.{FaultKind, TheVariants.Syntax}, word_fault.WordFault.WordFault}}
+use Rattle.asm_text.specs.{declared.{piece.Piece.Piece, token.Token.Token}, Token.{piece_of, IsWithin, token_before, with_later, tokens_behind}}
 use Rattle.asm_text.specs.declared.piece.Piece.TheVariants as pieces
-use Rattle.asm_text.specs.declared.token.Token.{Token}
-use Rattle.asm_text.specs.Token.{piece_of, IsWithin, token_before, with_later, tokens_behind}
-use Rattle.asm_text.proofs.MapError.{ok_of_map_err}
-use Rattle.asm_text.proofs.Behind.{behind}
+use Rattle.asm_text.proofs.{MapError.ok_of_map_err, Behind.behind}
 
 -- characters that are passed
 tokens_behind-passed : (count : ℕ) (line : List ℕ)

@@ -3,18 +3,9 @@ use Rattle.std.specs.Prelude.{Bool, true, false, if◌then◌else◌}
 use Rattle.word_arith.specs.declared.size.Size.TheVariants.{Byte}
 use Rattle.word_arith.specs.declared.op2.Op2.TheVariants as op
 use Rattle.msp_decode.specs.declared.constant.Gen.TheVariants as gen
-use Rattle.msp_decode.specs.declared.reg.Reg.TheVariants.{R0, R2, R3}
-use Rattle.msp_decode.specs.Spelling.{has_size, writes_operand}
-use Rattle.asm_text.specs.declared.emulated.Emulated.{Emulated}
-use Rattle.asm_text.specs.declared.emulated.Emulated.TheVariants.{Adc, Br, Clr, Clrc, Clrn, Clrz, Dadc, Dec, Decd, Dint, Eint, Inc, Incd, Inv, Nop, Pop, Ret, Rla, Rlc, Sbc, Setc, Setn, Setz, Tst}
-use Rattle.asm_text.specs.declared.mnemonic.Mnemonic.{Mnemonic}
+use Rattle.msp_decode.specs.{declared.reg.Reg.TheVariants.{R0, R2, R3}, Spelling.{has_size, writes_operand}}
+use Rattle.asm_text.specs.{declared.{emulated.Emulated.{Emulated, TheVariants.{Adc, Br, Clr, Clrc, Clrn, Clrz, Dadc, Dec, Decd, Dint, Eint, Inc, Incd, Inv, Nop, Pop, Ret, Rla, Rlc, Sbc, Setc, Setn, Setz, Tst}}, mnemonic.Mnemonic.Mnemonic, form.{Form.{Form, TheVariants.{Two, One, Reti, Jump}}, SourceRole.TheVariants.{First, Constant, StackTop}, DestRole.TheVariants.{First as OnlyDest, Second, Register}}, operand_form.OperandForm.{OperandForm, TheVariants.{SourceAndDestination, Source, Destination, InPlace, DestinationTwice, Target, Nothing}}}}
 use Rattle.asm_text.specs.declared.mnemonic.Mnemonic.TheVariants as mnemonic
-use Rattle.asm_text.specs.declared.form.Form.{Form}
-use Rattle.asm_text.specs.declared.form.Form.TheVariants.{Two, One, Reti, Jump}
-use Rattle.asm_text.specs.declared.form.SourceRole.TheVariants.{First, Constant, StackTop}
-use Rattle.asm_text.specs.declared.form.DestRole.TheVariants.{First as OnlyDest, Second, Register}
-use Rattle.asm_text.specs.declared.operand_form.OperandForm.{OperandForm}
-use Rattle.asm_text.specs.declared.operand_form.OperandForm.TheVariants.{SourceAndDestination, Source, Destination, InPlace, DestinationTwice, Target, Nothing}
 
 -- the emulated instructions: R0 is the program counter, R2 the status register
 abbrev pub emulated_form : Emulated → Form

@@ -1,11 +1,7 @@
 -- What a source's text means, said of its lines as a whole.
 use Rattle.std.specs.Prelude.{◌≡◌, ◌⊎◌, ◌++◌, ◌∷◌, ℕ, List, map, IsUtf8, Result, Ok, Err}
-use Rattle.text_scan.specs.declared.fault_at.FaultAt.{FaultAt}
-use Rattle.text_scan.specs.declared.fault_kind.FaultKind.{FaultKind}
-use Rattle.text_scan.specs.Line.{text_lines}
-use Rattle.text_scan.specs.Utf8.{utf8_of}
-use Rattle.asm_text.specs.declared.statement.Statement.{Statement}
-use Rattle.asm_text.specs.Source.{line_statement}
+use Rattle.text_scan.specs.{declared.{fault_at.FaultAt.FaultAt, fault_kind.FaultKind.FaultKind}, Line.text_lines, Utf8.utf8_of}
+use Rattle.asm_text.specs.{declared.statement.Statement.Statement, Source.line_statement}
 
 -- what a line says, read alone
 abbrev pub lone_statement : ℕ × List ℕ → Result Statement FaultKind

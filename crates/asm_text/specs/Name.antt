@@ -3,17 +3,9 @@ use Rattle.std.specs.Prelude.{ℕ, List, [], ◌∷◌, Option, Some, option_map
 use Rattle.std.specs.Option.{option_or}
 use Rattle.std.specs.Str.{bytes_eq}
 use Rattle.named_value.specs.Names.{Names, value_named}
-use Rattle.word_arith.specs.declared.op2.Op2.{Op2}
-use Rattle.word_arith.specs.declared.op2.Op2.TheVariants.{Mov, Add, Addc, Subc, Sub, Cmp, Dadd, Bit, Bic, Bis, Xor, And}
-use Rattle.msp_decode.specs.declared.reg.Reg.{Reg}
-use Rattle.msp_decode.specs.declared.reg.Reg.TheVariants.{R0, R1, R2, R3, R4, R5, R6, R7, R8, R9, R10, R11, R12, R13, R14, R15}
-use Rattle.msp_decode.specs.declared.one.One.{One}
-use Rattle.msp_decode.specs.declared.one.One.TheVariants.{Rrc, Swpb, Rra, Sxt, Push, Call}
-use Rattle.msp_decode.specs.declared.cond.Cond.{Cond}
-use Rattle.msp_decode.specs.declared.cond.Cond.TheVariants.{Ne, Eq, Nc, C, N, Ge, L, Always}
-use Rattle.asm_text.specs.declared.emulated.Emulated.{Emulated}
-use Rattle.asm_text.specs.declared.emulated.Emulated.TheVariants.{Adc, Br, Clr, Clrc, Clrn, Clrz, Dadc, Dec, Decd, Dint, Eint, Inc, Incd, Inv, Nop, Pop, Ret, Rla, Rlc, Sbc, Setc, Setn, Setz, Tst}
-use Rattle.asm_text.specs.declared.mnemonic.Mnemonic.{Mnemonic}
+use Rattle.word_arith.specs.{declared.op2.Op2.{Op2, TheVariants.{Mov, Add, Addc, Subc, Sub, Cmp, Dadd, Bit, Bic, Bis, Xor, And}}}
+use Rattle.msp_decode.specs.{declared.{reg.Reg.{Reg, TheVariants.{R0, R1, R2, R3, R4, R5, R6, R7, R8, R9, R10, R11, R12, R13, R14, R15}}, one.One.{One, TheVariants.{Rrc, Swpb, Rra, Sxt, Push, Call}}, cond.Cond.{Cond, TheVariants.{Ne, Eq, Nc, C, N, Ge, L, Always}}}}
+use Rattle.asm_text.specs.{declared.{emulated.Emulated.{Emulated, TheVariants.{Adc, Br, Clr, Clrc, Clrn, Clrz, Dadc, Dec, Decd, Dint, Eint, Inc, Incd, Inv, Nop, Pop, Ret, Rla, Rlc, Sbc, Setc, Setn, Setz, Tst}}, mnemonic.Mnemonic.Mnemonic}}
 use Rattle.asm_text.specs.declared.mnemonic.Mnemonic.TheVariants as mnemonic
 
 -- instructions of two operands

@@ -1,16 +1,9 @@
 -- Expressions and operands.
 use Rattle.std.specs.Prelude.{◌-◌, Bool, true, false, List, [], ◌∷◌, Option, Some, None, length, take, drop, map, Result, Ok, Err}
 use Rattle.std.specs.List.{slice_split}
-use Rattle.text_scan.specs.declared.fault_kind.FaultKind.{FaultKind}
-use Rattle.text_scan.specs.declared.fault_kind.FaultKind.TheVariants.{Syntax}
-use Rattle.text_scan.specs.Reader.{◌>>=◌}
-use Rattle.asm_text.specs.declared.operand.Operand.{Operand}
-use Rattle.asm_text.specs.declared.operand.Operand.TheVariants.{Reg, Imm, Abs, Indexed, Symbolic, Indirect, IndirectInc}
-use Rattle.asm_text.specs.declared.term.Term.{Term}
+use Rattle.text_scan.specs.{declared.fault_kind.FaultKind.{FaultKind, TheVariants.Syntax}, Reader.◌>>=◌}
+use Rattle.asm_text.specs.{declared.{operand.Operand.{Operand, TheVariants.{Reg, Imm, Abs, Indexed, Symbolic, Indirect, IndirectInc}}, term.Term.Term, token.Token.{Token, TheVariants.{Number, Register, Name, Here, Comma, Hash, Ampersand, At, Plus, Minus, Open, Close}}}, Expr.SignedTerm}
 use Rattle.asm_text.specs.declared.term.Term.TheVariants as terms
-use Rattle.asm_text.specs.declared.token.Token.{Token}
-use Rattle.asm_text.specs.declared.token.Token.TheVariants.{Number, Register, Name, Here, Comma, Hash, Ampersand, At, Plus, Minus, Open, Close}
-use Rattle.asm_text.specs.Expr.{SignedTerm}
 
 abbrev pub term_of : Token → Result Term FaultKind
 term_of (Number number) = Ok (terms.Number number)

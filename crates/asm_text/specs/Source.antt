@@ -1,15 +1,7 @@
 -- Sources: what each line says, and the first fault.
 use Rattle.std.specs.Prelude.{ℕ, List, Option, map, Result, Ok}
-use Rattle.text_scan.specs.declared.fault_at.FaultAt.{FaultAt}
-use Rattle.text_scan.specs.declared.fault_kind.FaultKind.{FaultKind}
-use Rattle.text_scan.specs.Line.{text_lines}
-use Rattle.text_scan.specs.Reader.{◌>>=◌, in_line}
-use Rattle.text_scan.specs.Utf8.{utf8_of}
-use Rattle.asm_text.specs.declared.body.Body.{Body}
-use Rattle.asm_text.specs.declared.statement.Statement.{Statement}
-use Rattle.asm_text.specs.Operand.{all_of}
-use Rattle.asm_text.specs.Statement.{labelled_body}
-use Rattle.asm_text.specs.Token.{tokens_of}
+use Rattle.text_scan.specs.{declared.{fault_at.FaultAt.FaultAt, fault_kind.FaultKind.FaultKind}, Line.text_lines, Reader.{◌>>=◌, in_line}, Utf8.utf8_of}
+use Rattle.asm_text.specs.{declared.{body.Body.Body, statement.Statement.Statement}, Operand.all_of, Statement.labelled_body, Token.tokens_of}
 
 abbrev pub statement_in_line : ℕ → (Option (List ℕ) × Body) → Statement
 statement_in_line line content = record { line = line; label = content.0; body = content.1 }

@@ -1,28 +1,14 @@
 -- Statements: operations with operands of the forms that they take.
 use Rattle.std.specs.Prelude.{ℕ, ◌&&◌, Bool, true, false, List, [], ◌∷◌, Option, Some, None, map, if◌then◌else◌, Result, Ok, Err}
-use Rattle.text_scan.specs.declared.fault_kind.FaultKind.{FaultKind}
+use Rattle.text_scan.specs.{declared.fault_kind.FaultKind.FaultKind, Reader.◌>>=◌}
 use Rattle.text_scan.specs.declared.fault_kind.FaultKind.TheVariants as faults
-use Rattle.text_scan.specs.Reader.{◌>>=◌}
 use Rattle.word_arith.specs.declared.size.Size.{Size}
-use Rattle.msp_decode.specs.declared.reg.Reg.{Reg as Register}
-use Rattle.msp_decode.specs.declared.reg.Reg.TheVariants.{R2, R3}
+use Rattle.msp_decode.specs.{declared.reg.Reg.{Reg as Register, TheVariants.{R2, R3}}, Spelling.has_form}
 use Rattle.msp_decode.specs.declared.source_form.SourceForm.TheVariants as forms
-use Rattle.msp_decode.specs.Spelling.{has_form}
-use Rattle.asm_text.specs.declared.body.Body.{Body}
+use Rattle.asm_text.specs.{declared.{body.Body.Body, mnemonic.Mnemonic.Mnemonic, operand.Operand.{Operand, TheVariants.{Reg, Imm, Abs, Indexed, Symbolic, Indirect, IndirectInc}}, operand_form.OperandForm.{OperandForm, TheVariants.{SourceAndDestination, Source, Destination, InPlace, DestinationTwice, Target, Nothing}}, operation.Operation.{Operation, TheVariants.{Instr, Org, Word, Byte, Ascii, Equ}}, token.Token.Token}, Operand.{operand_of, operands_of, parts_of, all_of}, Expr.SignedTerm, Form.{form_of, operand_form}}
 use Rattle.asm_text.specs.declared.body.Body.TheVariants as bodies
-use Rattle.asm_text.specs.declared.mnemonic.Mnemonic.{Mnemonic}
-use Rattle.asm_text.specs.declared.operand.Operand.{Operand}
-use Rattle.asm_text.specs.declared.operand.Operand.TheVariants.{Reg, Imm, Abs, Indexed, Symbolic, Indirect, IndirectInc}
-use Rattle.asm_text.specs.declared.operand_form.OperandForm.{OperandForm}
-use Rattle.asm_text.specs.declared.operand_form.OperandForm.TheVariants.{SourceAndDestination, Source, Destination, InPlace, DestinationTwice, Target, Nothing}
-use Rattle.asm_text.specs.declared.operation.Operation.{Operation}
-use Rattle.asm_text.specs.declared.operation.Operation.TheVariants.{Instr, Org, Word, Byte, Ascii, Equ}
 use Rattle.asm_text.specs.declared.term.Term.TheVariants as terms
-use Rattle.asm_text.specs.declared.token.Token.{Token}
 use Rattle.asm_text.specs.declared.token.Token.TheVariants as tokens
-use Rattle.asm_text.specs.Operand.{operand_of, operands_of, parts_of, all_of}
-use Rattle.asm_text.specs.Expr.{SignedTerm}
-use Rattle.asm_text.specs.Form.{form_of, operand_form}
 
 -- `E(Rn)` is not with R2, and with R3 only as a destination
 abbrev pub is_dest_base : Register → Bool

@@ -3,16 +3,10 @@ use Rattle.std.specs.Prelude.{ℕ, ◌<◌, ◌≤◌, ◌+◌, ◌-◌, ◌==�
 use Rattle.std.specs.Char.{is_ascii_digit}
 use Rattle.std.specs.List.{position_or_len, before_first}
 use Rattle.msp_decode.specs.declared.reg.Reg.{Reg}
-use Rattle.text_scan.specs.declared.fault_kind.FaultKind.{FaultKind}
-use Rattle.text_scan.specs.declared.fault_kind.FaultKind.TheVariants.{Syntax}
-use Rattle.text_scan.specs.Word.{is_blank}
-use Rattle.asm_text.specs.declared.operation.Operation.{Operation}
-use Rattle.asm_text.specs.declared.piece.Piece.{Piece}
+use Rattle.text_scan.specs.{declared.fault_kind.FaultKind.{FaultKind, TheVariants.Syntax}, Word.is_blank}
+use Rattle.asm_text.specs.{declared.{operation.Operation.Operation, piece.Piece.Piece, token.Token.Token}, Word.{is_word_character, ends_word, is_name, number_of, operation_of, lower_case}, Name.register_of}
 use Rattle.asm_text.specs.declared.piece.Piece.TheVariants as pieces
-use Rattle.asm_text.specs.declared.token.Token.{Token}
 use Rattle.asm_text.specs.declared.token.Token.TheVariants as tokens
-use Rattle.asm_text.specs.Word.{is_word_character, ends_word, is_name, number_of, operation_of, lower_case}
-use Rattle.asm_text.specs.Name.{register_of}
 
 abbrev pub number_piece : Option ℕ → ℕ → Piece
 number_piece None count = pieces.Stray

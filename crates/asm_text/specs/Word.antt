@@ -6,11 +6,7 @@ use Rattle.std.specs.Option.{option_or}
 use Rattle.std.specs.Str.{bytes_eq}
 use Rattle.std.specs.Str.Parse.{digits_value}
 use Rattle.word_arith.specs.declared.size.Size.TheVariants as sizes
-use Rattle.asm_text.specs.declared.mnemonic.Mnemonic.{Mnemonic}
-use Rattle.asm_text.specs.declared.operation.Operation.{Operation}
-use Rattle.asm_text.specs.declared.operation.Operation.TheVariants.{Instr, Org, Word, Byte, Ascii, Equ}
-use Rattle.asm_text.specs.Form.{form_of, has_byte_form}
-use Rattle.asm_text.specs.Name.{mnemonic_of}
+use Rattle.asm_text.specs.{declared.{mnemonic.Mnemonic.Mnemonic, operation.Operation.{Operation, TheVariants.{Instr, Org, Word, Byte, Ascii, Equ}}}, Form.{form_of, has_byte_form}, Name.mnemonic_of}
 
 -- letters, digits and `_` (95)
 abbrev pub is_name_character : ℕ → Bool

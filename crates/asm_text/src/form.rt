@@ -1,9 +1,6 @@
 ghost use Rattle.std.specs.Prelude.{◌≡◌};
-ghost use Rattle.asm_text.specs.Form.{emulated_form};
+ghost use Rattle.asm_text.specs.{Form.emulated_form, declared.form.{Form.TheVariants.Two, SourceRole.TheVariants.Constant, DestRole.TheVariants.{First as OnlyDest, Register}}};
 ghost use Rattle.msp_decode.specs.declared.reg.Reg.TheVariants.{R2};
-ghost use Rattle.asm_text.specs.declared.form.Form.TheVariants.{Two};
-ghost use Rattle.asm_text.specs.declared.form.SourceRole.TheVariants.{Constant};
-ghost use Rattle.asm_text.specs.declared.form.DestRole.TheVariants.{First as OnlyDest, Register};
 
 use crate::emulated::Emulated;
 use crate::mnemonic::Mnemonic;

@@ -1,8 +1,6 @@
 ghost use Rattle.std.specs.Prelude.{◌≡◌, ◌++◌, ◌∷◌, [], List, OnOk};
 ghost use Rattle.text_scan.specs.Reader.{ReadsWord};
-ghost use Rattle.asm_text.specs.declared.operand.Operand.{Operand};
-ghost use Rattle.asm_text.specs.Operand.{operands_of};
-ghost use Rattle.asm_text.specs.Statement.{two_of, all_exprs, exprs_of};
+ghost use Rattle.asm_text.specs.{declared.operand.Operand.Operand, Operand.operands_of, Statement.{two_of, all_exprs, exprs_of}};
 
 use crate::exprs::Exprs;
 use crate::operand::Operand;

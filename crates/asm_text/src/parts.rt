@@ -2,8 +2,7 @@ ghost use Rattle.std.specs.Prelude.{◌≡◌, ◌∷◌, ◌≤◌, List, lengt
 ghost use Rattle.std.specs.Option.{option_copied};
 ghost use Rattle.std.specs.Iterator.{YieldsFirstRef, item_count};
 ghost use Rattle.std.specs.List.{slice_split, position_or_len};
-ghost use Rattle.asm_text.specs.declared.token.Token.{Token};
-ghost use Rattle.asm_text.specs.Operand.{is_comma, parts_of, parts_behind};
+ghost use Rattle.asm_text.specs.{declared.token.Token.Token, Operand.{is_comma, parts_of, parts_behind}};
 
 use crate::token::Token;
 use std::marker::Model;

@@ -1,8 +1,6 @@
 ghost use Rattle.std.specs.Prelude.{map};
-ghost use Rattle.text_scan.specs.Line.{text_lines};
-ghost use Rattle.text_scan.specs.Reader.{Reads, ReadsWord};
-ghost use Rattle.asm_text.specs.Operand.{all_of};
-ghost use Rattle.asm_text.specs.Source.{line_statement, statement_of, source_of};
+ghost use Rattle.text_scan.specs.{Line.text_lines, Reader.{Reads, ReadsWord}};
+ghost use Rattle.asm_text.specs.{Operand.all_of, Source.{line_statement, statement_of, source_of}};
 
 use crate::source::Source;
 use crate::statement::Statement;

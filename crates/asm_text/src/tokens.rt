@@ -1,7 +1,6 @@
 ghost use Rattle.std.specs.Prelude.{◌≡◌, ◌++◌, ◌∷◌, [], List, OnOk};
 ghost use Rattle.text_scan.specs.Reader.{ReadsWord};
-ghost use Rattle.asm_text.specs.declared.token.Token.{Token};
-ghost use Rattle.asm_text.specs.Token.{tokens_of};
+ghost use Rattle.asm_text.specs.{declared.token.Token.Token, Token.tokens_of};
 
 use crate::line_piece::piece_of;
 use crate::piece::Piece;

@@ -1,7 +1,6 @@
 ghost use Rattle.std.specs.Prelude.{◌≡◌, ◌<◌, length, IfOk};
 ghost use Rattle.std.specs.List.{list_all};
-ghost use Rattle.asm_text.specs.Word.{is_name, is_name_character};
-ghost use Rattle.asm_text.specs.Token.{number_piece, word_token, word_piece, IsWithin};
+ghost use Rattle.asm_text.specs.{Word.{is_name, is_name_character}, Token.{number_piece, word_token, word_piece, IsWithin}};
 
 use crate::characters::Characters;
 use crate::number_word::number_of;

@@ -2,24 +2,18 @@
 use Rattle.std.proofs.Common.{◌≡◌, ℕ, List, [], refl, subst, arith}
 use Rattle.std.proofs.lemmas.List.{append-nil}
 use Rattle.hmac_core.specs.Hash.{Hash}
-use Rattle.mem_map.specs.Image.{byte_in, image_byte}
-use Rattle.mem_map.specs.declared.image.Image.{Image}
+use Rattle.mem_map.specs.{Image.{byte_in, image_byte}, declared.image.Image.Image}
 use Rattle.play_script.specs.Script.{TimedEvent, events_of}
 use Rattle.device_trace.specs.Start.{with_key}
 use Rattle.outside_edge.specs.declared.sink.Sink as sink
 use Rattle.outside_edge.specs.declared.source.Source as source
 use Rattle.source_server.specs.declared.halt.Halt.TheVariants as halt
-use Rattle.source_server.specs.declared.served.Served.TheVariants.{Own}
-use Rattle.source_server.specs.Serving.{Serves}
+use Rattle.source_server.specs.{declared.served.Served.TheVariants.Own, Serving.Serves}
 use Rattle.source_server.proofs.ServedPieces.{none_served}
-use Rattle.debug_link.specs.Serving.{talk_promise}
-use Rattle.debug_link.specs.declared.talk_end.TalkEnd.TheVariants.{Memory}
+use Rattle.debug_link.specs.{Serving.talk_promise, declared.talk_end.TalkEnd.TheVariants.Memory}
 use Rattle.debug_session.specs.Place.{Run}
-use Rattle.debug_walk.specs.PlayedRun.{played_run}
-use Rattle.debug_walk.specs.Walk.{second_flag}
-use Rattle.debug_walk.specs.declared.run.Run.{Run as GivenRun}
-use Rattle.device_debug.specs.Session.{StandsInRun, run_reply}
-use Rattle.device_debug.specs.declared.run_debugger.RunDebugger.{RunDebugger}
+use Rattle.debug_walk.specs.{PlayedRun.played_run, Walk.second_flag, declared.run.Run.Run as GivenRun}
+use Rattle.device_debug.specs.{Session.{StandsInRun, run_reply}, declared.run_debugger.RunDebugger.RunDebugger}
 use Rattle.debug_cli.specs.Begun.{first_of}
 
 -- the run of these files, by any digest

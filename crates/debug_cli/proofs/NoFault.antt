@@ -5,10 +5,7 @@ use Rattle.outside_edge.specs.declared.shelf.Shelf as shelves
 use Rattle.outside_edge.specs.declared.sink.Sink as sink
 use Rattle.outside_edge.specs.declared.source.Source as source
 use Rattle.source_server.specs.Ports.{Ports}
-use Rattle.input_files.specs.declared.status.Status.{Status}
-use Rattle.input_files.specs.declared.status.Status.TheVariants.{Words}
-use Rattle.input_files.specs.Reading.{Files, IsRefusal}
-use Rattle.input_files.specs.Row.{RowOf}
+use Rattle.input_files.specs.{declared.status.Status.{Status, TheVariants.Words}, Reading.{Files, IsRefusal}, Row.RowOf}
 use Rattle.debug_cli.specs.Session.{IsSessionAnswer, Session}
 use Rattle.debug_cli.proofs.ServedSession.{IsFault, no-fault, served-fault}
 

@@ -3,22 +3,15 @@ use Rattle.std.proofs.Common.{◌≡◌, ◌<◌, ◌⊎◌, ℕ, List, length, 
 use Rattle.outside_edge.specs.Count.{Rose}
 use Rattle.outside_edge.specs.declared.sink.Sink as sink
 use Rattle.outside_edge.specs.declared.source.Source as source
-use Rattle.source_server.specs.declared.halt.Halt.{Halt}
+use Rattle.source_server.specs.{declared.{halt.Halt.Halt, served.Served.Served}, Ports.Ports, Responder.Promise, Serving.{Serves, served_of}, Taken.{KeepsLimit, most_input}}
 use Rattle.source_server.specs.declared.halt.Halt.TheVariants as halt
-use Rattle.source_server.specs.declared.served.Served.{Served}
 use Rattle.source_server.specs.declared.served.Served.TheVariants as served
-use Rattle.source_server.specs.Ports.{Ports}
-use Rattle.source_server.specs.Responder.{Promise}
-use Rattle.source_server.specs.Serving.{Serves, served_of}
-use Rattle.source_server.specs.Taken.{KeepsLimit, most_input}
 use Rattle.source_server.proofs.ServedEnds.{keeps_limit, unwritten, whole_or_stopped}
 use Rattle.debug_link.specs.declared.talk_end.TalkEnd.{TalkEnd}
 use Rattle.debug_link.specs.declared.talk_end.TalkEnd.TheVariants as talk
 use Rattle.device_live.specs.Serving.{life_promise}
-use Rattle.input_files.specs.declared.status.Status.{Status}
-use Rattle.input_files.specs.declared.status.Status.TheVariants.{Done, Words, Memory, Spent, ReadFault, WriteFault}
-use Rattle.debug_cli.specs.Session.{Debugs, EndsWith, HasServed, Lives, Session, debug_promise}
-use Rattle.debug_cli.specs.Status.{status_of, talk_status}
+use Rattle.input_files.specs.{declared.status.Status.{Status, TheVariants.{Done, Words, Memory, Spent, ReadFault, WriteFault}}}
+use Rattle.debug_cli.specs.{Session.{Debugs, EndsWith, HasServed, Lives, Session, debug_promise}, Status.{status_of, talk_status}}
 
 abbrev pub IsFault : Status → Type 0
 IsFault status = (status ≡ ReadFault) ⊎ (status ≡ WriteFault)

@@ -6,16 +6,9 @@ use Rattle.outside_edge.specs.declared.sink.Sink as sink
 use Rattle.outside_edge.specs.declared.source.Source as source
 use Rattle.play_script.specs.Script.{TimedEvent}
 use Rattle.source_server.specs.Ports.{Ports}
-use Rattle.input_files.specs.declared.refusal.Refusal.{Refusal}
-use Rattle.input_files.specs.declared.status.Status.{Status}
-use Rattle.input_files.specs.declared.status.Status.TheVariants.{Words}
-use Rattle.input_files.specs.Reading.{Reaches, Reads}
-use Rattle.input_files.specs.Row.{RowOf, Ends}
-use Rattle.input_files.specs.Status.{status_of_refusal}
-use Rattle.input_files.proofs.Complete.{refused-complete, told-complete}
-use Rattle.input_files.proofs.Refused.{refused-spent, refused-words}
-use Rattle.debug_cli.specs.Begun.{run_with, start_with}
-use Rattle.debug_cli.specs.Session.{Debugs, HasServed, IsSessionAnswer, Lives, Session}
+use Rattle.input_files.specs.{declared.{refusal.Refusal.Refusal, status.Status.{Status, TheVariants.Words}}, Reading.{Reaches, Reads}, Row.{RowOf, Ends}, Status.status_of_refusal}
+use Rattle.input_files.proofs.{Complete.{refused-complete, told-complete}, Refused.{refused-spent, refused-words}}
+use Rattle.debug_cli.specs.{Begun.{run_with, start_with}, Session.{Debugs, HasServed, IsSessionAnswer, Lives, Session}}
 use Rattle.debug_cli.proofs.ServedSession.{served-limit, served-whole, served-words}
 
 -- the ends of the rows, once their files have values

@@ -6,8 +6,7 @@ use Rattle.mem_map.specs.Image.{image_byte}
 use Rattle.play_script.specs.Script.{TimedEvent, events_of}
 use Rattle.sha2.specs.Sha256.{sha256}
 use Rattle.device_trace.specs.Start.{Start, with_key}
-use Rattle.debug_session.specs.Place.{Run}
-use Rattle.debug_session.specs.Session.{first_session}
+use Rattle.debug_session.specs.{Place.Run, Session.first_session}
 use Rattle.device_debug.specs.Session.{RunSession}
 
 -- what `play` powers a device on with, of a key and an image

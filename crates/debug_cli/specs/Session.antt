@@ -2,28 +2,17 @@
 -- `live`, whose lines say what happens to a device.
 use Rattle.std.specs.Prelude.{◌≡◌, ◌<◌, ◌≤◌, ◌⊎◌, ◌↔◌, ℕ, List, [], ◌∷◌, bytes_eq, codes, length, Option, Some, None, IfSome, Ok, if◌then◌else◌}
 use Rattle.device_trace.specs.Start.{Start}
-use Rattle.outside_edge.specs.Count.{Rose}
-use Rattle.outside_edge.specs.Shelf.{KeepsFiles}
+use Rattle.outside_edge.specs.{Count.Rose, Shelf.KeepsFiles}
 use Rattle.outside_edge.specs.declared.shelf.Shelf as shelves
 use Rattle.outside_edge.specs.declared.sink.Sink as sink
 use Rattle.outside_edge.specs.declared.source.Source as source
-use Rattle.source_server.specs.declared.served.Served.{Served}
-use Rattle.source_server.specs.Ports.{Ports}
-use Rattle.source_server.specs.Responder.{Promise}
-use Rattle.source_server.specs.Serving.{Serves}
-use Rattle.source_server.specs.Taken.{KeepsLimit, most_input}
-use Rattle.debug_link.specs.Serving.{talk_promise}
-use Rattle.debug_link.specs.declared.talk_end.TalkEnd.{TalkEnd}
+use Rattle.source_server.specs.{declared.served.Served.Served, Ports.Ports, Responder.Promise, Serving.Serves, Taken.{KeepsLimit, most_input}}
+use Rattle.debug_link.specs.{Serving.talk_promise, declared.talk_end.TalkEnd.TalkEnd}
 use Rattle.debug_session.specs.Place.{Run}
 use Rattle.device_debug.specs.Session.{run_reply}
 use Rattle.device_live.specs.Serving.{life_promise}
-use Rattle.input_files.specs.declared.status.Status.{Status}
-use Rattle.input_files.specs.declared.status.Status.TheVariants.{Done, Words, Memory, Spent}
-use Rattle.input_files.specs.FileKind.{image_kind, key_kind, script_kind}
-use Rattle.input_files.specs.Reading.{IsUnread, Reaches, first_refusal}
-use Rattle.input_files.specs.Row.{RowOf, Ends, read_file}
-use Rattle.debug_cli.specs.Begun.{first_of, run_with, start_with}
-use Rattle.debug_cli.specs.Status.{status_of_life, status_of_talk}
+use Rattle.input_files.specs.{declared.status.Status.{Status, TheVariants.{Done, Words, Memory, Spent}}, FileKind.{image_kind, key_kind, script_kind}, Reading.{IsUnread, Reaches, first_refusal}, Row.{RowOf, Ends, read_file}}
+use Rattle.debug_cli.specs.{Begun.{first_of, run_with, start_with}, Status.{status_of_life, status_of_talk}}
 
 -- what serves a source: a debugger of a run, or a device at power-on
 pub data Session : Type 0 where

@@ -2,8 +2,7 @@
 use Rattle.std.specs.declared.alloc.AllocError.{AllocError}
 use Rattle.source_server.specs.declared.served.Served.{Served}
 use Rattle.source_server.specs.declared.served.Served.TheVariants as served
-use Rattle.debug_link.specs.declared.talk_end.TalkEnd.{TalkEnd}
-use Rattle.debug_link.specs.declared.talk_end.TalkEnd.TheVariants.{Closed, Memory}
+use Rattle.debug_link.specs.{declared.talk_end.TalkEnd.{TalkEnd, TheVariants.{Closed, Memory}}}
 use Rattle.input_files.specs.declared.status.Status.{Status}
 use Rattle.input_files.specs.declared.status.Status.TheVariants as status
 

@@ -5,11 +5,8 @@ use Rattle.std.proofs.lemmas.Bool.{false≢true}
 use Rattle.std.proofs.lemmas.List.{append-nil, take_more}
 use Rattle.outside_edge.specs.Sink.{TakesPrefix}
 use Rattle.outside_edge.specs.declared.sink.Sink as sink
-use Rattle.debug_link.specs.Console.{AddsText, HasAdded, MOST_TEXT, console, text_body}
-use Rattle.debug_link.specs.Packet.{packets_of}
-use Rattle.debug_link.specs.Writing.{HasPut, PacketSink, PutsPackets}
-use Rattle.debug_link.proofs.Bodies.{put_both, put_none, puts_behind, puts_failed, puts_less}
-use Rattle.debug_link.proofs.ConsolePieces.{pieces-full, pieces-one}
+use Rattle.debug_link.specs.{Console.{AddsText, HasAdded, MOST_TEXT, console, text_body}, Packet.packets_of, Writing.{HasPut, PacketSink, PutsPackets}}
+use Rattle.debug_link.proofs.{Bodies.{put_both, put_none, puts_behind, puts_failed, puts_less}, ConsolePieces.{pieces-full, pieces-one}}
 
 regrouped : (rest one two more : List ℕ)
     → rest ++ (one ++ two) ++ more ≡ (rest ++ one) ++ (two ++ more)

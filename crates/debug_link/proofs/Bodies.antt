@@ -5,9 +5,7 @@ use Rattle.std.proofs.lemmas.List.{append-nil}
 use Rattle.outside_edge.specs.Sink.{Puts, TakesPrefix}
 use Rattle.outside_edge.specs.declared.sink.Sink as sink
 use Rattle.outside_edge.proofs.SinkLemmas.{prefix_after, prefix_of_more, takes_both}
-use Rattle.debug_link.specs.Conversation.{last_packet}
-use Rattle.debug_link.specs.Packet.{packet_of, packets_of}
-use Rattle.debug_link.specs.Writing.{HasPut, PacketSink, PutsPackets}
+use Rattle.debug_link.specs.{Conversation.last_packet, Packet.{packet_of, packets_of}, Writing.{HasPut, PacketSink, PutsPackets}}
 
 one_packet : (body : List ℕ) → packets_of (body ∷ []) ≡ packet_of body
 unfolding packets_of

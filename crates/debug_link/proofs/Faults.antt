@@ -2,12 +2,9 @@
 use Rattle.std.proofs.Common.{◌≡◌, ◌≤◌, ◌∙◌, ℕ, Result, Ok, Err, IsErr, sym, arith}
 use Rattle.std.specs.Prelude.{IsErrAnd}
 use Rattle.std.proofs.lemmas.Bool.{false≢true}
-use Rattle.outside_edge.specs.Count.{Rose}
-use Rattle.outside_edge.specs.Sink.{CountsFaults}
+use Rattle.outside_edge.specs.{Count.Rose, Sink.CountsFaults}
 use Rattle.outside_edge.proofs.Counts.{rose_since}
-use Rattle.debug_link.specs.Writing.{CountsWriteFaults}
-use Rattle.debug_link.specs.declared.answer_fault.AnswerFault.{AnswerFault}
-use Rattle.debug_link.specs.declared.answer_fault.AnswerFault.TheVariants.{Memory}
+use Rattle.debug_link.specs.{Writing.CountsWriteFaults, declared.answer_fault.AnswerFault.{AnswerFault, TheVariants.Memory}}
 
 module _ {S : Type 0} (faults : S → ℕ) (old mid new : S) where
   -- a call that failed where another one did, before which none was counted

@@ -4,19 +4,10 @@ use Rattle.std.specs.Prelude.{Option, Result}
 use Rattle.std.proofs.lemmas.List.{append-nil}
 use Rattle.outside_edge.specs.declared.sink.Sink as sink
 use Rattle.source_server.specs.Responder.{Answers, Moment}
-use Rattle.debug_link.specs.Conversation.{Answer, OfSomeTalk, Talk, conversation, first_talk}
-use Rattle.debug_link.specs.Link.{Between}
-use Rattle.debug_link.specs.Reading.{ReaderStandsFor}
-use Rattle.debug_link.specs.Serving.{GoesOnTo, StandsBehind, TalkStart, came_of, parties_at, parties_promise}
-use Rattle.debug_link.specs.Writing.{CountsWriteFaults, PacketSink}
-use Rattle.debug_link.specs.declared.answer_fault.AnswerFault.{AnswerFault}
+use Rattle.debug_link.specs.{Conversation.{Answer, OfSomeTalk, Talk, conversation, first_talk}, Link.Between, Reading.ReaderStandsFor, Serving.{GoesOnTo, StandsBehind, TalkStart, came_of, parties_at, parties_promise}, Writing.{CountsWriteFaults, PacketSink}, declared.{answer_fault.AnswerFault.AnswerFault, connection.Connection.{Connection, TheVariants.{Open, Closed}}, packet_responder.PacketResponder.PacketResponder}}
 use Rattle.debug_link.specs.declared.answer_fault.AnswerFault.TheVariants as fault
-use Rattle.debug_link.specs.declared.connection.Connection.{Connection}
-use Rattle.debug_link.specs.declared.connection.Connection.TheVariants.{Open, Closed}
-use Rattle.debug_link.specs.declared.packet_responder.PacketResponder.{PacketResponder}
 use Rattle.outside_edge.proofs.Counts.{rose_since}
-use Rattle.debug_link.proofs.Parties.{GoesOnBy}
-use Rattle.debug_link.proofs.Talks.{bytes_both, inputs_both}
+use Rattle.debug_link.proofs.{Parties.GoesOnBy, Talks.{bytes_both, inputs_both}}
 
 module _ {T Session Interrupt W : Type 0} (stands : T → Session → Type 0) (w : sink.Ghosts W)
     (reply : Option Interrupt → Session → List ℕ → Answer Session) where

@@ -6,17 +6,7 @@ use Rattle.std.proofs.lemmas.List.{append-nil, take_more}
 use Rattle.outside_edge.specs.Sink.{Takes, TakesPrefix}
 use Rattle.outside_edge.specs.declared.sink.Sink as sink
 use Rattle.outside_edge.proofs.SinkLemmas.{prefix_after, prefix_of_more, takes_both}
-use Rattle.debug_link.specs.Conversation.{LONGEST_BODY, Answer, Input, Talk, answer_to, talk_after_message, bytes_of, mark_of, talk_after_byte, with_answer, talk_with_byte, talk_with_inputs}
-use Rattle.debug_link.specs.HeldBody.{HeldBody, short_body}
-use Rattle.debug_link.specs.Link.{Message, Silence, Again, Damage, Whole, link_after, message_of}
-use Rattle.debug_link.specs.Packet.{packet_of, packets_of}
-use Rattle.debug_link.specs.Reading.{KeepsBody, ReaderStandsFor, heard_of}
-use Rattle.debug_link.specs.Serving.{GoesOnTo, Parties, TalkStandsFor}
-use Rattle.debug_link.specs.Writing.{Answers, PacketSink}
-use Rattle.debug_link.specs.declared.answer_fault.AnswerFault.{AnswerFault}
-use Rattle.debug_link.specs.declared.connection.Connection.{Connection}
-use Rattle.debug_link.specs.declared.connection.Connection.TheVariants.{Open, Closed}
-use Rattle.debug_link.specs.declared.packet_reader.Heard.{Heard}
+use Rattle.debug_link.specs.{Conversation.{LONGEST_BODY, Answer, Input, Talk, answer_to, talk_after_message, bytes_of, mark_of, talk_after_byte, with_answer, talk_with_byte, talk_with_inputs}, HeldBody.{HeldBody, short_body}, Link.{Message, Silence, Again, Damage, Whole, link_after, message_of}, Packet.{packet_of, packets_of}, Reading.{KeepsBody, ReaderStandsFor, heard_of}, Serving.{GoesOnTo, Parties, TalkStandsFor}, Writing.{Answers, PacketSink}, declared.{answer_fault.AnswerFault.AnswerFault, connection.Connection.{Connection, TheVariants.{Open, Closed}}, packet_reader.Heard.Heard}}
 use Rattle.debug_link.specs.declared.packet_reader.Heard.TheVariants as heard
 use Rattle.debug_link.proofs.Talks.{answered_more, bytes_both, closed_inputs, inputs_both, inputs_more, open_byte, quiet, quiet_bytes}
 

@@ -3,8 +3,7 @@ use Rattle.std.specs.Prelude.{◌≡◌, ◌++◌, ℕ, zero, suc, List, [], ◌
 use Rattle.hex.specs.Hex.{encode_lower}
 use Rattle.outside_edge.specs.Sink.{TakesPrefix}
 use Rattle.outside_edge.specs.declared.sink.Sink as sink
-use Rattle.debug_link.specs.Packet.{packets_of}
-use Rattle.debug_link.specs.Writing.{HasPut, PacketSink}
+use Rattle.debug_link.specs.{Packet.packets_of, Writing.{HasPut, PacketSink}}
 
 -- at most so many bytes of text go into one packet
 abbrev pub MOST_TEXT : ℕ

@@ -1,9 +1,6 @@
 -- A conversation: what is put for the bytes that come, whoever answers the packets.
 use Rattle.std.specs.Prelude.{◌≡◌, ℕ, ◌++◌, List, [], ◌∷◌, Option, Bool, false, true, codes, length, map, nat_lt, if◌then◌else◌}
-use Rattle.debug_link.specs.Link.{Link, Between, Message, Silence, Again, Damage, Whole, link_after, message_of}
-use Rattle.debug_link.specs.Packet.{packet_of, packets_of}
-use Rattle.debug_link.specs.declared.connection.Connection.{Connection}
-use Rattle.debug_link.specs.declared.connection.Connection.TheVariants.{Open, Closed}
+use Rattle.debug_link.specs.{Link.{Link, Between, Message, Silence, Again, Damage, Whole, link_after, message_of}, Packet.{packet_of, packets_of}, declared.connection.Connection.{Connection, TheVariants.{Open, Closed}}}
 
 -- What is answered to a body: where the session stands then, the bodies of the packets that are
 -- put, the last of which is the reply, and whether the connection is closed behind them.

@@ -1,7 +1,6 @@
 -- The body of a packet as it comes: its bytes, where it is not too long, and their sum.
 use Rattle.std.specs.Prelude.{ℕ, List, length, nat_lt, if◌then◌else◌, Option, Some, None}
-use Rattle.debug_link.specs.Conversation.{LONGEST_BODY}
-use Rattle.debug_link.specs.Packet.{packet_sum}
+use Rattle.debug_link.specs.{Conversation.LONGEST_BODY, Packet.packet_sum}
 
 pub record HeldBody : Type 0 where
   pub bytes : Option (List ℕ)

@@ -1,10 +1,7 @@
 -- What a reader of packets keeps of the one that comes.
 use Rattle.std.specs.Prelude.{◌≡◌}
-use Rattle.debug_link.specs.HeldBody.{held_of}
-use Rattle.debug_link.specs.Link.{Link, Between, Within, Ended, HalfChecked, Message, Silence, Again, Damage, Whole}
-use Rattle.debug_link.specs.declared.packet_reader.PacketReader.{PacketReader}
+use Rattle.debug_link.specs.{HeldBody.held_of, Link.{Link, Between, Within, Ended, HalfChecked, Message, Silence, Again, Damage, Whole}, declared.packet_reader.{PacketReader.PacketReader, Heard.Heard}}
 use Rattle.debug_link.specs.declared.packet_reader.Stage.TheVariants as stage
-use Rattle.debug_link.specs.declared.packet_reader.Heard.{Heard}
 use Rattle.debug_link.specs.declared.packet_reader.Heard.TheVariants as heard
 
 -- a reader stands for what came of a packet

@@ -1,22 +1,11 @@
 -- What is put into a sink of the bytes that a source gives, and why it ends.
 use Rattle.std.specs.Prelude.{◌≡◌, ◌≤◌, ◌++◌, ℕ, false, List, Option, Result, Ok, Err, OnErr, IfOk, IsTrue}
-use Rattle.outside_edge.specs.Count.{Rose}
-use Rattle.outside_edge.specs.Sink.{Takes, TakesPrefix}
+use Rattle.outside_edge.specs.{Count.Rose, Sink.{Takes, TakesPrefix}}
 use Rattle.outside_edge.specs.declared.sink.Sink as sink
-use Rattle.source_server.specs.declared.halt.Halt.{Halt}
-use Rattle.source_server.specs.declared.halt.Halt.TheVariants.{Write, Own}
-use Rattle.source_server.specs.Responder.{Moment, Promise}
-use Rattle.debug_link.specs.Conversation.{Answer, OfSomeTalk, Talk, is_closed}
-use Rattle.debug_link.specs.Reading.{ReaderStandsFor}
-use Rattle.debug_link.specs.Writing.{PacketSink}
-use Rattle.debug_link.specs.declared.answer_fault.AnswerFault.{AnswerFault}
+use Rattle.source_server.specs.{declared.halt.Halt.{Halt, TheVariants.{Write, Own}}, Responder.{Moment, Promise}}
+use Rattle.debug_link.specs.{Conversation.{Answer, OfSomeTalk, Talk, is_closed}, Reading.ReaderStandsFor, Writing.PacketSink, declared.{answer_fault.AnswerFault.AnswerFault, connection.Connection.Connection, packet_reader.PacketReader.PacketReader, packet_responder.PacketResponder.PacketResponder, talk_end.TalkEnd.{TalkEnd, TheVariants.{Closed, Memory}}}}
 use Rattle.debug_link.specs.declared.answer_fault.AnswerFault.TheVariants as fault
-use Rattle.debug_link.specs.declared.connection.Connection.{Connection}
 use Rattle.debug_link.specs.declared.connection.Connection.TheVariants as connection
-use Rattle.debug_link.specs.declared.packet_reader.PacketReader.{PacketReader}
-use Rattle.debug_link.specs.declared.packet_responder.PacketResponder.{PacketResponder}
-use Rattle.debug_link.specs.declared.talk_end.TalkEnd.{TalkEnd}
-use Rattle.debug_link.specs.declared.talk_end.TalkEnd.TheVariants.{Closed, Memory}
 
 -- a conversation was put, and is not over
 abbrev pub PutsTalk : {W Session : Type 0} → sink.Ghosts W → W → W → Talk Session → Type 0

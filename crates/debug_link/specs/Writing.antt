@@ -1,13 +1,8 @@
 -- Packets that are put into a sink.
 use Rattle.std.specs.Prelude.{◌≡◌, ◌≤◌, ℕ, List, Result, OnErr, OnOk, IfOk, IfErr}
-use Rattle.outside_edge.specs.Count.{Rose}
-use Rattle.outside_edge.specs.Sink.{Takes, TakesPrefix}
+use Rattle.outside_edge.specs.{Count.Rose, Sink.{Takes, TakesPrefix}}
 use Rattle.outside_edge.specs.declared.sink.Sink as sink
-use Rattle.debug_link.specs.Conversation.{Answer, last_packet}
-use Rattle.debug_link.specs.Packet.{packets_of}
-use Rattle.debug_link.specs.declared.answer_fault.AnswerFault.{AnswerFault}
-use Rattle.debug_link.specs.declared.answer_fault.AnswerFault.TheVariants.{Write}
-use Rattle.debug_link.specs.declared.connection.Connection.{Connection}
+use Rattle.debug_link.specs.{Conversation.{Answer, last_packet}, Packet.packets_of, declared.{answer_fault.AnswerFault.{AnswerFault, TheVariants.Write}, connection.Connection.Connection}}
 
 -- A sink behind packets, and the last packet that was put, as its bytes: none at first.
 pub record PacketSink (W : Type 0) : Type 0 where

@@ -6,8 +6,7 @@ use outside_edge::Sink;
 /// One who answers the packets of a debugger.
 pub trait Answerer {
     ghost use Rattle.std.specs.Prelude.{◌≤◌, ℕ, List, Option, length};
-    ghost use Rattle.debug_link.specs.Conversation.{Answer, LONGEST_BODY};
-    ghost use Rattle.debug_link.specs.Writing.{Answers, CountsWriteFaults};
+    ghost use Rattle.debug_link.specs.{Conversation.{Answer, LONGEST_BODY}, Writing.{Answers, CountsWriteFaults}};
 
     /// Where a session may stand.
     ghost Session: { Type 0 };

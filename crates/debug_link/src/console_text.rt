@@ -1,8 +1,7 @@
 ghost use Rattle.std.specs.Prelude.{◌≡◌, ◌<◌, ◌≤◌, ◌+◌, ◌*◌, [], ◌∷◌, length, OnOk};
 ghost use Rattle.arrayvec.specs.ArrayVec.{array_vec_len};
 ghost use Rattle.outside_edge.specs.Sink.{CountsFaults};
-ghost use Rattle.debug_link.specs.Console.{AddsText, console, text_body};
-ghost use Rattle.debug_link.specs.Writing.{PutsPackets};
+ghost use Rattle.debug_link.specs.{Console.{AddsText, console, text_body}, Writing.PutsPackets};
 
 use crate::packet_writer::PacketWriter;
 use arrayvec::ArrayVec;

@@ -1,6 +1,5 @@
 ghost use Rattle.std.specs.Prelude.{◌≡◌, ◌≤◌, ℕ, List, ◌++◌, ◌∷◌, [], length, option_map, IfSome};
-ghost use Rattle.debug_link.specs.Conversation.{LONGEST_BODY as longest};
-ghost use Rattle.debug_link.specs.HeldBody.{held_of};
+ghost use Rattle.debug_link.specs.{Conversation.LONGEST_BODY as longest, HeldBody.held_of};
 
 use arrayvec::ArrayVec;
 use std::marker::Model;

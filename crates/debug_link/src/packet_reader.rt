@@ -1,7 +1,5 @@
 ghost use Rattle.std.specs.Prelude.{◌≡◌, ◌≤◌, ℕ, List, length, option_map, IfSome};
-ghost use Rattle.debug_link.specs.Conversation.{LONGEST_BODY as longest};
-ghost use Rattle.debug_link.specs.Link.{Link, Between, Within, HalfChecked, link_after_other, message_of_other, link_after, message_of};
-ghost use Rattle.debug_link.specs.declared.packet_reader.Stage.TheVariants.{Body};
+ghost use Rattle.debug_link.specs.{Conversation.LONGEST_BODY as longest, Link.{Link, Between, Within, HalfChecked, link_after_other, message_of_other, link_after, message_of}, declared.packet_reader.Stage.TheVariants.Body};
 
 use crate::check_digits::are_digits_of;
 use crate::held_body::HeldBody;
@@ -39,8 +37,7 @@ pub struct PacketReader {
 }
 
 impl PacketReader {
-    ghost use Rattle.debug_link.specs.HeldBody.{held_of};
-    ghost use Rattle.debug_link.specs.Reading.{ReaderStandsFor, KeepsBody, heard_of};
+    ghost use Rattle.debug_link.specs.{HeldBody.held_of, Reading.{ReaderStandsFor, KeepsBody, heard_of}};
 
     pub fn new() -> PacketReader
         ensures { ReaderStandsFor result Between }

@@ -1,7 +1,5 @@
 ghost use Rattle.std.specs.Prelude.{◌≡◌};
-ghost use Rattle.debug_link.specs.Link.{Between};
-ghost use Rattle.debug_link.specs.Reading.{ReaderStandsFor};
-ghost use Rattle.debug_link.specs.Serving.{came_of as came};
+ghost use Rattle.debug_link.specs.{Link.Between, Reading.ReaderStandsFor, Serving.came_of as came};
 
 use crate::answer_fault::AnswerFault;
 use crate::answerer::Answerer;

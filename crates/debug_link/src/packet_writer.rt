@@ -1,8 +1,7 @@
 ghost use Rattle.std.specs.Prelude.{◌≡◌, ◌≤◌, [], ◌∷◌, codes, length};
 ghost use Rattle.hex.specs.Hex.{encode_lower};
 ghost use Rattle.outside_edge.specs.Sink.{Puts, CountsFaults};
-ghost use Rattle.debug_link.specs.Conversation.{LONGEST_BODY as longest};
-ghost use Rattle.debug_link.specs.Packet.{packet_of};
+ghost use Rattle.debug_link.specs.{Conversation.LONGEST_BODY as longest, Packet.packet_of};
 
 use crate::held_body::LONGEST_BODY;
 use arrayvec::ArrayVec;

@@ -1,12 +1,7 @@
 ghost use Rattle.std.specs.Prelude.{◌≡◌, ◌≤◌, ℕ, List, [], Option, false, length, IfSome, option_map};
 ghost use Rattle.outside_edge.specs.Sink.{CountsFaults, Puts};
 ghost use Rattle.source_server.specs.Serving.{Serves};
-ghost use Rattle.debug_link.specs.Conversation.{Input, LONGEST_BODY as longest, Talk, answer_to, bytes_of, mark_of, talk_with_byte, talk_with_inputs};
-ghost use Rattle.debug_link.specs.Link.{Message};
-ghost use Rattle.debug_link.specs.HeldBody.{short_body};
-ghost use Rattle.debug_link.specs.Reading.{heard_of};
-ghost use Rattle.debug_link.specs.Serving.{GoesOnTo, TalkStandsFor, talk_promise};
-ghost use Rattle.debug_link.specs.Writing.{Answers, CountsWriteFaults};
+ghost use Rattle.debug_link.specs.{Conversation.{Input, LONGEST_BODY as longest, Talk, answer_to, bytes_of, mark_of, talk_with_byte, talk_with_inputs}, Link.Message, HeldBody.short_body, Reading.heard_of, Serving.{GoesOnTo, TalkStandsFor, talk_promise}, Writing.{Answers, CountsWriteFaults}};
 
 use crate::answer_fault::AnswerFault;
 use crate::answerer::Answerer;

@@ -4,8 +4,7 @@ use Rattle.std.specs.Prelude.{MatchResult}
 use Rattle.hex.specs.Hex.{decode_of, decode_sized}
 use Rattle.hex.specs.declared.error.FromHexError.{FromHexError}
 use Rattle.text_scan.specs.Word.{words_of}
-use Rattle.debug_session.specs.Request.{request_in, request_of, request_where}
-use Rattle.debug_session.specs.declared.request.Request.{Request}
+use Rattle.debug_session.specs.{Request.{request_in, request_of, request_where}, declared.request.Request.Request}
 
 pub decoded : (digits : List ℕ) (count : ℕ) → count ≡ length digits / 2
     → decode_sized digits count ≡ decode_of digits

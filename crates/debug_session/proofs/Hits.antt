@@ -1,8 +1,7 @@
 -- First and last hits of lists that are put together.
 use Rattle.std.proofs.Common.{◌≡◌, refl, List, [], ◌∷◌, ◌++◌, Option, Some}
 use Rattle.std.specs.Option.{option_or}
-use Rattle.debug_session.specs.Watched.{first_hit, last_hit}
-use Rattle.debug_session.specs.declared.watch.Hit.{Hit}
+use Rattle.debug_session.specs.{Watched.{first_hit, last_hit}, declared.watch.Hit.Hit}
 
 pub first_of_both : (xs ys : List Hit)
     → first_hit (xs ++ ys) ≡ option_or (first_hit xs) (first_hit ys)

@@ -3,8 +3,7 @@ use Rattle.std.proofs.Common.{◌≡◌, ◌≤◌, ◌<◌, ◌+◌, ◌-◌, �
 use Rattle.std.specs.Prelude.{if◌then◌else◌}
 use Rattle.std.proofs.lemmas.Bool.{cases_Bool, cases_lt, cond-false}
 use Rattle.std.proofs.lemmas.List.{length-append}
-use Rattle.debug_session.specs.Cause.{ahead, behind}
-use Rattle.debug_session.specs.Sight.{Sight, View}
+use Rattle.debug_session.specs.{Cause.{ahead, behind}, Sight.{Sight, View}}
 
 -- the last boundary before a place, or place 0
 pub record HasBegin (view : View) (place : ℕ) : Type 0 where

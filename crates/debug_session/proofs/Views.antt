@@ -3,9 +3,7 @@ use Rattle.std.proofs.Common.{◌≡◌, ◌≤◌, ◌<◌, ◌∙◌, ℕ, ap,
 use Rattle.std.specs.Prelude.{nat_lt}
 use Rattle.std.proofs.Math.Nat.{min-eq_left}
 use Rattle.std.proofs.lemmas.Bool.{cond-true, lt-ltb}
-use Rattle.debug_session.specs.Request.{most_steps}
-use Rattle.debug_session.specs.Place.{Run, no_step, sight_at, step_sight, view_of}
-use Rattle.debug_session.specs.Sight.{Sight}
+use Rattle.debug_session.specs.{Request.most_steps, Place.{Run, no_step, sight_at, step_sight, view_of}, Sight.Sight}
 
 module _ (run : Run) where
   pub view-at : (place : ℕ) → place ≤ most_steps → view_of run place ≡ sight_at run place

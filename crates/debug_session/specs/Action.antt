@@ -2,12 +2,7 @@
 use Rattle.std.specs.Prelude.{ℕ, ◌==◌, ◌&&◌, ◌||◌, Bool, List, Option, Some, None, codes, drop, is_some, length, take, if◌then◌else◌}
 use Rattle.std.specs.Str.{bytes_eq}
 use Rattle.std.specs.List.{before_first}
-use Rattle.debug_session.specs.Number.{number_of, two_numbers}
-use Rattle.debug_session.specs.declared.command.Command.{Command}
-use Rattle.debug_session.specs.declared.command.Command.TheVariants.{Go, Refused}
-use Rattle.debug_session.specs.declared.command.Going.{Going}
-use Rattle.debug_session.specs.declared.command.Going.TheVariants.{On, Step, Range}
-use Rattle.debug_session.specs.declared.command.Way.TheVariants.{Ahead}
+use Rattle.debug_session.specs.{Number.{number_of, two_numbers}, declared.command.{Command.{Command, TheVariants.{Go, Refused}}, Going.{Going, TheVariants.{On, Step, Range}}, Way.TheVariants.Ahead}}
 
 -- what stands behind this beginning, where a body begins so
 abbrev pub behind : List ℕ → List ℕ → Option (List ℕ)

@@ -1,20 +1,9 @@
 -- Why a debugger stops at a place: for what is there, for what lies between it and where it came
 -- from, and for what lies ahead.
 use Rattle.std.specs.Prelude.{ℕ, ◌==◌, ◌&&◌, ◌||◌, ◌-◌, ◌++◌, Bool, true, false, zero, suc, List, [], ◌∷◌, Option, Some, None, length, nat_le, nat_lt, not, if◌then◌else◌}
-use Rattle.bus_signals.specs.declared.rule.Rule.{Rule}
-use Rattle.bus_signals.specs.declared.rule.Rule.TheVariants.{X0}
-use Rattle.bus_signals.specs.Kind.{is_boot, is_cpu, is_rom}
-use Rattle.bus_signals.specs.Map.{ROM_ENTRY}
+use Rattle.bus_signals.specs.{declared.rule.Rule.{Rule, TheVariants.X0}, Kind.{is_boot, is_cpu, is_rom}, Map.ROM_ENTRY}
 use Rattle.part_definitions.specs.CpuRegister.{is_asleep, pc_of}
-use Rattle.debug_session.specs.Stops.{Stops, has_breakpoint}
-use Rattle.debug_session.specs.Watched.{first_hit, last_hit}
-use Rattle.debug_session.specs.declared.stop.Stop.{Stop}
-use Rattle.debug_session.specs.declared.stop.Stop.TheVariants.{Plain, Stepped, Watched, Refused}
-use Rattle.debug_session.specs.declared.watch.Hit.{Hit}
-use Rattle.debug_session.specs.declared.watch.Watch.{Watch}
-use Rattle.debug_session.specs.declared.command.Way.{Way}
-use Rattle.debug_session.specs.declared.command.Way.TheVariants.{Ahead, Back}
-use Rattle.debug_session.specs.Sight.{Sight, View}
+use Rattle.debug_session.specs.{Stops.{Stops, has_breakpoint}, Watched.{first_hit, last_hit}, declared.{stop.Stop.{Stop, TheVariants.{Plain, Stepped, Watched, Refused}}, watch.{Hit.Hit, Watch.Watch}, command.Way.{Way, TheVariants.{Ahead, Back}}}, Sight.{Sight, View}}
 
 -- where a step stops, too: it leads over instructions of this level at most, to a PC that is not in
 -- a range, from the first address to before the end

@@ -1,15 +1,6 @@
 -- Where a debugger goes to: the first place ahead that has a cause to stop, or the last one before.
 use Rattle.std.specs.Prelude.{ℕ, ◌-◌, ◌==◌, ◌&&◌, ◌||◌, zero, suc, Bool, Option, Some, None, if◌then◌else◌, max, min, nat_le}
-use Rattle.debug_session.specs.Request.{most_steps}
-use Rattle.debug_session.specs.declared.command.Going.{Going}
-use Rattle.debug_session.specs.declared.command.Going.TheVariants.{On, Step as OneStep, Range}
-use Rattle.debug_session.specs.declared.command.Way.{Way}
-use Rattle.debug_session.specs.declared.command.Way.TheVariants.{Ahead, Back}
-use Rattle.debug_session.specs.Cause.{Seek, Step, cause}
-use Rattle.debug_session.specs.Sight.{View}
-use Rattle.debug_session.specs.Stops.{Stops}
-use Rattle.debug_session.specs.declared.stop.Stop.{Stop}
-use Rattle.debug_session.specs.declared.stop.Stop.TheVariants.{Begin, End, Interrupted}
+use Rattle.debug_session.specs.{Request.most_steps, declared.{command.{Going.{Going, TheVariants.{On, Step as OneStep, Range}}, Way.{Way, TheVariants.{Ahead, Back}}}, stop.Stop.{Stop, TheVariants.{Begin, End, Interrupted}}}, Cause.{Seek, Step, cause}, Sight.View, Stops.Stops}
 
 -- a place, and why a debugger stands there
 pub record Standing : Type 0 where

@@ -2,10 +2,7 @@
 use Rattle.std.specs.Prelude.{ℕ, ◌++◌, ◌-◌, zero, suc, List, [], codes, min}
 use Rattle.std.specs.Fmt.{decimal}
 use Rattle.printed_lines.specs.Line.{flag_digit}
-use Rattle.debug_session.specs.Request.{most_steps}
-use Rattle.debug_session.specs.declared.request.Request.{Request}
-use Rattle.debug_session.specs.declared.request.Request.TheVariants.{Steps, Flags, Play as PlayText, Trace, Until, Help, Other}
-use Rattle.debug_session.specs.Sight.{Sight, StepSight, View}
+use Rattle.debug_session.specs.{Request.most_steps, declared.request.Request.{Request, TheVariants.{Steps, Flags, Play as PlayText, Trace, Until, Help, Other}}, Sight.{Sight, StepSight, View}}
 
 -- a text of so many steps from a place on
 abbrev pub texts_from : View → (StepSight → List ℕ) → ℕ → ℕ → List ℕ

@@ -1,24 +1,11 @@
 -- The places of a run: what a debugger reads there are the device's logs after so many steps.
 use Rattle.std.specs.Prelude.{ℕ, ◌||◌, ◌%◌, Bool, true, false, suc, List, [], Option, Some, None, min, nat_lt, not, if◌then◌else◌}
 use Rattle.word_arith.specs.declared.size.Size.TheVariants.{Byte}
-use Rattle.bus_signals.specs.declared.bus_record.BusRecord.{BusRecord}
-use Rattle.bus_signals.specs.declared.event.Event.{Event}
-use Rattle.bus_signals.specs.declared.kind.Kind.TheVariants.{Idle}
-use Rattle.bus_signals.specs.Map.{key_region, lies_in, stack_region}
+use Rattle.bus_signals.specs.{declared.{bus_record.BusRecord.BusRecord, event.Event.Event, kind.Kind.TheVariants.Idle}, Map.{key_region, lies_in, stack_region}}
 use Rattle.printed_lines.specs.Line.{end_line}
-use Rattle.device_trace.specs.Logs.{Logs, aux_of, exec_of}
-use Rattle.device_trace.specs.Play.{Play}
-use Rattle.device_trace.specs.Progress.{last_registers, next_pc_of, stands_at_boundary}
-use Rattle.device_trace.specs.Signals.{number_read}
-use Rattle.device_trace.specs.Start.{Start}
-use Rattle.device_trace.specs.Step.{next_record}
-use Rattle.device_trace.specs.Text.{lines_of_step}
-use Rattle.device_trace.specs.Trace.{logs_after, play_of}
-use Rattle.trace_files.specs.LineText.{trace_line}
-use Rattle.trace_files.specs.TraceText.{next_line}
-use Rattle.debug_session.specs.Request.{most_steps}
-use Rattle.debug_session.specs.Sight.{Sight, StepSight, View}
-use Rattle.debug_session.specs.Watched.{hits_of, seen_accesses}
+use Rattle.device_trace.specs.{Logs.{Logs, aux_of, exec_of}, Play.Play, Progress.{last_registers, next_pc_of, stands_at_boundary}, Signals.number_read, Start.Start, Step.next_record, Text.lines_of_step, Trace.{logs_after, play_of}}
+use Rattle.trace_files.specs.{LineText.trace_line, TraceText.next_line}
+use Rattle.debug_session.specs.{Request.most_steps, Sight.{Sight, StepSight, View}, Watched.{hits_of, seen_accesses}}
 
 -- what a device is powered on with, and the events of each of its steps
 pub record Run : Type 0 where

@@ -3,11 +3,8 @@ use Rattle.std.specs.Prelude.{ℕ, List, Option, Some, None, Result, Ok, Err, co
 use Rattle.std.specs.Str.{bytes_eq}
 use Rattle.hex.specs.Hex.{decode_of}
 use Rattle.hex.specs.declared.error.FromHexError.{FromHexError}
-use Rattle.text_scan.specs.Decimal.{decimal_of}
-use Rattle.text_scan.specs.Word.{end_of, next_word, words_of}
-use Rattle.text_scan.specs.declared.fault_kind.FaultKind.{FaultKind}
-use Rattle.debug_session.specs.declared.request.Request.{Request}
-use Rattle.debug_session.specs.declared.request.Request.TheVariants.{Steps, Flags, Play, Trace, Until, Help, Other}
+use Rattle.text_scan.specs.{Decimal.decimal_of, Word.{end_of, next_word, words_of}, declared.fault_kind.FaultKind.FaultKind}
+use Rattle.debug_session.specs.{declared.request.Request.{Request, TheVariants.{Steps, Flags, Play, Trace, Until, Help, Other}}}
 
 -- the most steps of a play
 abbrev pub most_steps : ℕ

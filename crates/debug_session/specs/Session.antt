@@ -1,26 +1,9 @@
 -- What a debugger answers, from where its session stands.
 use Rattle.std.specs.Prelude.{ℕ, ◌==◌, ◌++◌, ◌-◌, zero, suc, List, [], ◌∷◌, Option, Some, None, codes, is_some, if◌then◌else◌}
 use Rattle.printed_lines.specs.Line.{reset_line}
-use Rattle.debug_link.specs.Console.{console}
-use Rattle.debug_link.specs.Conversation.{Answer}
-use Rattle.debug_link.specs.declared.connection.Connection.TheVariants.{Open, Closed}
-use Rattle.debug_session.specs.StopReply.{stop_reply}
-use Rattle.debug_session.specs.Stops.{Stops, no_stops, with_change}
-use Rattle.debug_session.specs.declared.stop.Stop.{Stop}
+use Rattle.debug_link.specs.{Console.console, Conversation.Answer, declared.connection.Connection.TheVariants.{Open, Closed}}
+use Rattle.debug_session.specs.{StopReply.stop_reply, Stops.{Stops, no_stops, with_change}, declared.{stop.Stop.Stop, command.{Command.{Command, TheVariants.{Supported, LastStop, Attached, Registers, Memory, Change, Actions, Go, Monitor, Detach, Kill, Refused, Unknown}}, Going.Going, Way.{Way, TheVariants.{Ahead, Back}}}, request.Request.{Request, TheVariants.Until}}, Command.command_of, Request.most_steps, Going.{Standing, interrupted, where_to}, Monitor.request_text, Shown.{memory_body, registers_shown}, Sight.View}
 use Rattle.debug_session.specs.declared.stop.Stop.TheVariants as stop
-use Rattle.debug_session.specs.Command.{command_of}
-use Rattle.debug_session.specs.Request.{most_steps}
-use Rattle.debug_session.specs.declared.command.Command.{Command}
-use Rattle.debug_session.specs.declared.command.Going.{Going}
-use Rattle.debug_session.specs.declared.command.Way.{Way}
-use Rattle.debug_session.specs.declared.command.Way.TheVariants.{Ahead, Back}
-use Rattle.debug_session.specs.declared.command.Command.TheVariants.{Supported, LastStop, Attached, Registers, Memory, Change, Actions, Go, Monitor, Detach, Kill, Refused, Unknown}
-use Rattle.debug_session.specs.declared.request.Request.{Request}
-use Rattle.debug_session.specs.declared.request.Request.TheVariants.{Until}
-use Rattle.debug_session.specs.Going.{Standing, interrupted, where_to}
-use Rattle.debug_session.specs.Monitor.{request_text}
-use Rattle.debug_session.specs.Shown.{memory_body, registers_shown}
-use Rattle.debug_session.specs.Sight.{View}
 
 -- Only these change by what is asked; the run never does.
 pub record Session : Type 0 where

@@ -1,10 +1,8 @@
 -- What a debugger reads of a place, which is a number of steps.
 use Rattle.std.specs.Prelude.{ℕ, Bool, List, Option}
-use Rattle.bus_signals.specs.declared.kind.Kind.{Kind}
-use Rattle.bus_signals.specs.declared.rule.Rule.{Rule}
+use Rattle.bus_signals.specs.{declared.{kind.Kind.Kind, rule.Rule.Rule}}
 use Rattle.part_definitions.specs.CpuRegister.{Registers}
-use Rattle.debug_session.specs.declared.watch.Hit.{Hit}
-use Rattle.debug_session.specs.declared.watch.Watch.{Watch}
+use Rattle.debug_session.specs.{declared.watch.{Hit.Hit, Watch.Watch}}
 
 -- of the step that the device makes there next, and which of some watches it hits
 pub record StepSight : Type 0 where

@@ -3,15 +3,8 @@
 use Rattle.std.specs.Prelude.{ℕ, ◌&&◌, ◌++◌, ◌+◌, Bool, true, List, [], ◌∷◌, Option, Some, None, is_some, nat_le, nat_lt, if◌then◌else◌}
 use Rattle.std.specs.List.{list_any}
 use Rattle.word_arith.specs.declared.size.Size.TheVariants.{Word}
-use Rattle.bus_signals.specs.declared.access.Access.{Access}
-use Rattle.bus_signals.specs.declared.access.Access.TheVariants.{Fetch, Write}
-use Rattle.bus_signals.specs.Access.{bytes_of, is_read, is_write}
-use Rattle.bus_signals.specs.declared.bus_record.BusRecord.{BusRecord}
-use Rattle.bus_signals.specs.Map.{AUX_WORD, EXEC_WORD}
-use Rattle.debug_session.specs.declared.seen_accesses.SeenAccesses.{SeenAccesses}
-use Rattle.debug_session.specs.declared.watch.Hit.{Hit}
-use Rattle.debug_session.specs.declared.watch.Watch.{Watch}
-use Rattle.debug_session.specs.declared.watch.WatchKind.{WatchKind}
+use Rattle.bus_signals.specs.{declared.{access.Access.{Access, TheVariants.{Fetch, Write}}, bus_record.BusRecord.BusRecord}, Access.{bytes_of, is_read, is_write}, Map.{AUX_WORD, EXEC_WORD}}
+use Rattle.debug_session.specs.{declared.{seen_accesses.SeenAccesses.SeenAccesses, watch.{Hit.Hit, Watch.Watch, WatchKind.WatchKind}}}
 use Rattle.debug_session.specs.declared.watch.WatchKind.TheVariants as watch
 
 -- an access that is no fetch

@@ -1,8 +1,5 @@
 ghost use Rattle.std.specs.Prelude.{◌≡◌, ◌≤◌, length};
-ghost use Rattle.debug_session.specs.Command.{command_of, word_command, begun_command, begins_with_any, other_command};
-ghost use Rattle.debug_session.specs.Command.{memory_command, monitor_command, stop_command, stop_numbered, watch_kind_of, breakpoint_command, watch_command};
-ghost use Rattle.debug_session.specs.Number.{two_numbers};
-ghost use Rattle.debug_session.specs.Request.{request_in};
+ghost use Rattle.debug_session.specs.{Command.{command_of, word_command, begun_command, begins_with_any, other_command, memory_command, monitor_command, stop_command, stop_numbered, watch_kind_of, breakpoint_command, watch_command}, Number.two_numbers, Request.request_in};
 
 use crate::action::{behind, read_action, read_first_action};
 use crate::number::{cut_at_comma, number_of, two_numbers};

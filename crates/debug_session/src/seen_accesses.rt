@@ -1,8 +1,6 @@
 ghost use Rattle.std.specs.Prelude.{◌≡◌};
 ghost use Rattle.bus_signals.specs.Access.{bytes_of, places_of};
-ghost use Rattle.debug_session.specs.Watched.{data_access, flag_access, made_access, seen_accesses};
-ghost use Rattle.debug_session.specs.Watched.{is_of_kind, is_watched, first_watched, hit_by};
-ghost use Rattle.debug_session.specs.Watched.{hits_by, hits_of, first_hit, last_hit};
+ghost use Rattle.debug_session.specs.Watched.{data_access, flag_access, made_access, seen_accesses, is_of_kind, is_watched, first_watched, hit_by, hits_by, hits_of, first_hit, last_hit};
 
 use crate::watch::{Hit, Watch, WatchKind};
 use bus_signals::{AUX_WORD, Access, BusRecord, EXEC_WORD};

@@ -1,8 +1,6 @@
 ghost use Rattle.std.specs.Prelude.{◌≡◌, ◌==◌, MatchOption, true, false, not};
 ghost use Rattle.std.specs.List.{filter};
-ghost use Rattle.debug_session.specs.Stops.{no_stops, has_breakpoint, has_watch, is_empty, same_watch};
-ghost use Rattle.debug_session.specs.Watched.{is_hit};
-ghost use Rattle.debug_session.specs.Stops.{with_change};
+ghost use Rattle.debug_session.specs.{Stops.{no_stops, has_breakpoint, has_watch, is_empty, same_watch, with_change}, Watched.is_hit};
 
 use crate::seen_accesses::hit_by;
 use crate::stop_change::StopChange;

@@ -2,11 +2,8 @@
 use Rattle.std.proofs.Common.{◌≡◌, ℕ, Result, Ok, Err, inr, subst, sym}
 use Rattle.std.specs.Prelude.{IfOk, List}
 use Rattle.hmac_core.specs.Hash.{Hash}
-use Rattle.debug_session.specs.Place.{Run}
-use Rattle.debug_session.specs.declared.watch.Watch.{Watch}
-use Rattle.debug_walk.specs.Copies.{IsBegun}
-use Rattle.debug_walk.specs.Walk.{IsStretch, Walks, place_of}
-use Rattle.debug_walk.specs.declared.walk.Walk.{Walk}
+use Rattle.debug_session.specs.{Place.Run, declared.watch.Watch.Watch}
+use Rattle.debug_walk.specs.{Copies.IsBegun, Walk.{IsStretch, Walks, place_of}, declared.walk.Walk.Walk}
 
 pub begun-anew : {D E : Type 0} (hash : Hash D) (played run : Run) (result : Result (Walk D) E)
     → played ≡ run

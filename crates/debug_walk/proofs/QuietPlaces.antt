@@ -2,37 +2,14 @@
 use Rattle.std.proofs.Common.{◌≡◌, ◌<◌, ◌∙◌, ◌⊎◌, ⊎_elim, ℕ, suc, Bool, true, false, not, List, [], ◌∷◌, Option, None, Some, refl, ap, sym, subst, arith}
 use Rattle.std.specs.Prelude.{◌==◌, ◌&&◌, ◌||◌, is_some, if◌then◌else◌}
 use Rattle.std.proofs.lemmas.Bool.{false≢true}
-use Rattle.bus_signals.specs.Address.{even}
-use Rattle.bus_signals.specs.Map.{ROM_ENTRY}
-use Rattle.bus_signals.specs.declared.access.Access.{Access}
-use Rattle.bus_signals.specs.declared.access.Access.TheVariants.{Fetch, Read, Write}
-use Rattle.bus_signals.specs.declared.bus_record.BusRecord.{BusRecord}
-use Rattle.bus_signals.specs.declared.event.Event.{Event}
-use Rattle.bus_signals.specs.declared.kind.Kind.TheVariants.{Cpu, Idle, Irq, Rom}
-use Rattle.part_definitions.specs.CpuRegister.{Registers, is_asleep, pc_of}
-use Rattle.part_definitions.specs.CpuState.{Boundary, Executing, Entering}
-use Rattle.part_definitions.specs.MonitorRule.{in_rom}
-use Rattle.part_definitions.specs.Memory.{ShownFlags}
-use Rattle.part_definitions.specs.NextAccess.{next_access}
-use Rattle.device_trace.specs.Logs.{progress_after, vector_of}
-use Rattle.device_trace.specs.Progress.{Progress, Held, Runs, InCall, boundary_kind, kind_of, last_registers, progress_within, stands_at_boundary}
-use Rattle.device_trace.specs.Step.{next_record}
-use Rattle.device_trace.specs.Trace.{logs_after}
-use Rattle.trace_facts.proofs.ProperPlay.{IsProperProgress, logs_after-proper}
-use Rattle.trace_facts.proofs.ProperRegisters.{IsProper}
-use Rattle.device_core.specs.Quiet.{IsOfProcessor, IsQuiet}
-use Rattle.device_core.specs.Silence.{is_silent}
-use Rattle.debug_session.specs.Request.{most_steps}
-use Rattle.debug_session.specs.Cause.{is_broken_at}
-use Rattle.debug_session.specs.Place.{Run, aux_at, differs, exec_at, logs_at, play_to, sight_at, step_at, step_sight}
-use Rattle.debug_session.specs.Sight.{StepSight}
-use Rattle.debug_session.specs.Stops.{Stops, has_breakpoint}
-use Rattle.debug_session.specs.Watched.{hit_by, hits_by, hits_by_access, is_hit, made_access}
-use Rattle.debug_session.specs.declared.watch.Watch.{Watch}
+use Rattle.bus_signals.specs.{Address.even, Map.ROM_ENTRY, declared.{access.Access.{Access, TheVariants.{Fetch, Read, Write}}, bus_record.BusRecord.BusRecord, event.Event.Event, kind.Kind.TheVariants.{Cpu, Idle, Irq, Rom}}}
+use Rattle.part_definitions.specs.{CpuRegister.{Registers, is_asleep, pc_of}, CpuState.{Boundary, Executing, Entering}, MonitorRule.in_rom, Memory.ShownFlags, NextAccess.next_access}
+use Rattle.device_trace.specs.{Logs.{progress_after, vector_of}, Progress.{Progress, Held, Runs, InCall, boundary_kind, kind_of, last_registers, progress_within, stands_at_boundary}, Step.next_record, Trace.logs_after}
+use Rattle.trace_facts.proofs.{ProperPlay.{IsProperProgress, logs_after-proper}, ProperRegisters.IsProper}
+use Rattle.device_core.specs.{Quiet.{IsOfProcessor, IsQuiet}, Silence.is_silent}
+use Rattle.debug_session.specs.{Request.most_steps, Cause.is_broken_at, Place.{Run, aux_at, differs, exec_at, logs_at, play_to, sight_at, step_at, step_sight}, Sight.StepSight, Stops.{Stops, has_breakpoint}, Watched.{hit_by, hits_by, hits_by_access, is_hit, made_access}, declared.watch.Watch.Watch}
 use Rattle.debug_walk.specs.Passing.{IsSilent, Sleeps, is_passed, is_unasked}
-use Rattle.debug_walk.proofs.Places.{heard_at, step-cpu, step-kind, step-progress}
-use Rattle.debug_walk.proofs.Views.{some-same}
-use Rattle.debug_walk.proofs.SilentSteps.{next-there, silent-there}
+use Rattle.debug_walk.proofs.{Places.{heard_at, step-cpu, step-kind, step-progress}, Views.some-same, SilentSteps.{next-there, silent-there}}
 
 -- the record of a step without events
 record IsQuietAt (quiet : Access → Bool) (run : Run) (place : ℕ) : Type 0 where

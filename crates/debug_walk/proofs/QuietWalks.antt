@@ -8,25 +8,12 @@ use Rattle.bus_signals.specs.TraceFlag.{Flag}
 use Rattle.hmac_core.specs.Hash.{Hash}
 use Rattle.play_script.specs.declared.playback.Playback.{Playback}
 use Rattle.trace_facts.proofs.Choices.{none_there}
-use Rattle.device_core.specs.Device.{steps_made}
-use Rattle.device_core.specs.declared.live.Live.{Live}
+use Rattle.device_core.specs.{Device.steps_made, declared.live.Live.Live}
 use Rattle.device_play.specs.Midway.{HasGoneQuietlyOn}
-use Rattle.debug_session.specs.Request.{most_steps}
-use Rattle.debug_session.specs.declared.command.Way.TheVariants.{Ahead}
-use Rattle.debug_session.specs.Cause.{begins_within, behind, boots, hit_on, hits, is_broken_at, is_due}
-use Rattle.debug_session.specs.Place.{Run, sight_at, view_of}
-use Rattle.debug_session.specs.Sight.{Sight}
+use Rattle.debug_session.specs.{Request.most_steps, declared.{command.Way.TheVariants.Ahead, watch.{Hit.Hit, Watch.Watch}}, Cause.{begins_within, behind, boots, hit_on, hits, is_broken_at, is_due}, Place.{Run, sight_at, view_of}, Sight.Sight, Stops.Stops, Watched.first_hit}
 use Rattle.debug_session.proofs.Views.{view-at}
-use Rattle.debug_session.specs.Stops.{Stops}
-use Rattle.debug_session.specs.Watched.{first_hit}
-use Rattle.debug_session.specs.declared.watch.Hit.{Hit}
-use Rattle.debug_session.specs.declared.watch.Watch.{Watch}
-use Rattle.debug_walk.specs.Passing.{ArePassed, IsCapped, Sleeps, is_passed}
-use Rattle.debug_walk.specs.Stretch.{stretch_from}
-use Rattle.debug_walk.specs.Walk.{TellsCause}
-use Rattle.debug_walk.specs.declared.stretch.Stretch.{Stretch}
-use Rattle.debug_walk.proofs.QuietPlaces.{GoesBy, goes-by}
-use Rattle.debug_walk.proofs.StretchSteps.{behind-few, behind-some, hits-with, kept_behind}
+use Rattle.debug_walk.specs.{Passing.{ArePassed, IsCapped, Sleeps, is_passed}, Stretch.stretch_from, Walk.TellsCause, declared.stretch.Stretch.Stretch}
+use Rattle.debug_walk.proofs.{QuietPlaces.{GoesBy, goes-by}, StretchSteps.{behind-few, behind-some, hits-with, kept_behind}}
 
 first-of-none : (made : List Hit) → first_hit made ≡ None → made ≡ []
 first-of-none [] none = refl

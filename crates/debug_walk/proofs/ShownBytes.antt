@@ -6,9 +6,7 @@ use Rattle.std.proofs.lemmas.List.{append-nil}
 use Rattle.word_arith.specs.declared.size.Size.TheVariants.{Byte}
 use Rattle.bus_signals.specs.Map.{key_region, lies_in, stack_region}
 use Rattle.device_trace.specs.Signals.{number_read}
-use Rattle.debug_session.specs.Place.{Run, is_shown, logs_at, sight_at}
-use Rattle.debug_session.specs.Shown.{byte_and, bytes_shown}
-use Rattle.debug_session.specs.Sight.{Sight}
+use Rattle.debug_session.specs.{Place.{Run, is_shown, logs_at, sight_at}, Shown.{byte_and, bytes_shown}, Sight.Sight}
 
 module _ (here : Sight) where
   -- one byte more

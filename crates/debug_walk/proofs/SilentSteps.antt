@@ -6,9 +6,7 @@ use Rattle.device_trace.specs.Trace.{trace}
 use Rattle.device_core.specs.Silence.{is_silent}
 use Rattle.device_core.proofs.Idle.{silent-parts}
 use Rattle.device_play.proofs.SilentStep.{silent-lines}
-use Rattle.debug_session.specs.Request.{most_steps}
-use Rattle.debug_session.specs.Place.{Run, logs_at, no_step, play_to, sight_at, step_at, step_sight}
-use Rattle.debug_session.specs.Sight.{StepSight}
+use Rattle.debug_session.specs.{Request.most_steps, Place.{Run, logs_at, no_step, play_to, sight_at, step_at, step_sight}, Sight.StepSight}
 use Rattle.debug_walk.specs.Passing.{IsSilent}
 
 -- what is seen of the step at a place

@@ -5,25 +5,10 @@ use Rattle.std.specs.Prelude.{◌==◌, ◌&&◌, ◌||◌, nat_le, if◌then◌
 use Rattle.std.proofs.lemmas.Bool.{cases_lt}
 use Rattle.std.proofs.lemmas.Bool.Decides.{nat_tests}
 use Rattle.std.proofs.lemmas.List.{append-nil, append_assoc, length_push}
-use Rattle.bus_signals.specs.Kind.{is_boot, is_cpu, is_rom}
-use Rattle.bus_signals.specs.declared.kind.Kind.{Kind}
-use Rattle.bus_signals.specs.declared.kind.Kind.TheVariants.{Boot}
-use Rattle.bus_signals.specs.declared.rule.Rule.{Rule}
-use Rattle.debug_session.specs.Request.{most_steps}
-use Rattle.debug_session.specs.declared.command.Way.TheVariants.{Ahead, Back}
-use Rattle.debug_session.specs.Cause.{begins_within, behind, boots, hit_on, hits, refusal, refusal_or}
-use Rattle.debug_session.specs.Place.{Run, step_at, step_sight, view_of}
-use Rattle.debug_session.specs.Sight.{Sight, StepSight}
-use Rattle.debug_session.proofs.Stretches.{behind-first, has-begin}
-use Rattle.debug_session.proofs.Views.{next-at}
-use Rattle.debug_session.specs.Watched.{first_hit, hits_of, last_hit}
-use Rattle.debug_session.specs.declared.seen_accesses.SeenAccesses.{SeenAccesses}
-use Rattle.debug_session.specs.declared.watch.Hit.{Hit}
-use Rattle.debug_session.specs.declared.watch.Watch.{Watch}
-use Rattle.debug_session.proofs.Hits.{first_of_both, last_of_both}
-use Rattle.debug_walk.specs.Stretch.{stretch_from, stretch_with}
-use Rattle.debug_walk.specs.Walk.{IsStretch, first_refused}
-use Rattle.debug_walk.specs.declared.stretch.Stretch.{Stretch}
+use Rattle.bus_signals.specs.{Kind.{is_boot, is_cpu, is_rom}, declared.{kind.Kind.{Kind, TheVariants.Boot}, rule.Rule.Rule}}
+use Rattle.debug_session.specs.{Request.most_steps, declared.{command.Way.TheVariants.{Ahead, Back}, seen_accesses.SeenAccesses.SeenAccesses, watch.{Hit.Hit, Watch.Watch}}, Cause.{begins_within, behind, boots, hit_on, hits, refusal, refusal_or}, Place.{Run, step_at, step_sight, view_of}, Sight.{Sight, StepSight}, Watched.{first_hit, hits_of, last_hit}}
+use Rattle.debug_session.proofs.{Stretches.{behind-first, has-begin}, Views.next-at, Hits.{first_of_both, last_of_both}}
+use Rattle.debug_walk.specs.{Stretch.{stretch_from, stretch_with}, Walk.{IsStretch, first_refused}, declared.stretch.Stretch.Stretch}
 use Rattle.debug_walk.proofs.Places.{held-first, step-kind}
 
 pub hits-with : (watches : List Watch) (sights : List Sight) (last : Sight)

@@ -4,18 +4,9 @@ use Rattle.std.specs.Prelude.{◌==◌, ◌&&◌, ◌||◌, nat_le}
 use Rattle.std.proofs.lemmas.Bool.{cases_Bool, cond-false, cond-true, false≢true}
 use Rattle.std.proofs.lemmas.Bool.Decides.{nat_tests}
 use Rattle.std.proofs.lemmas.List.{length_push}
-use Rattle.debug_session.specs.Request.{most_steps}
-use Rattle.debug_session.specs.declared.command.Way.TheVariants.{Ahead}
-use Rattle.debug_session.specs.Cause.{begins_within, behind, hit_on, hits, is_due}
-use Rattle.debug_session.specs.Place.{Run, sight_at, step_at, step_sight, view_of}
-use Rattle.debug_session.specs.Sight.{Sight, StepSight}
+use Rattle.debug_session.specs.{Request.most_steps, declared.{command.Way.TheVariants.Ahead, seen_accesses.SeenAccesses.SeenAccesses}, Cause.{begins_within, behind, hit_on, hits, is_due}, Place.{Run, sight_at, step_at, step_sight, view_of}, Sight.{Sight, StepSight}, Stops.Stops, Watched.hits_of}
 use Rattle.debug_session.proofs.Views.{next-at, view-at}
-use Rattle.debug_session.specs.Stops.{Stops}
-use Rattle.debug_session.specs.Watched.{hits_of}
-use Rattle.debug_session.specs.declared.seen_accesses.SeenAccesses.{SeenAccesses}
-use Rattle.debug_walk.specs.Stretch.{stretch_from, stretch_with}
-use Rattle.debug_walk.specs.Walk.{TellsCause, stretch_there}
-use Rattle.debug_walk.specs.declared.stretch.Stretch.{Stretch}
+use Rattle.debug_walk.specs.{Stretch.{stretch_from, stretch_with}, Walk.{TellsCause, stretch_there}, declared.stretch.Stretch.Stretch}
 use Rattle.debug_walk.proofs.StretchSteps.{KeepsBehind, begins-next, behind-few, boots-with, first-with, is_begun, kept-all, kept_behind, keeps-none}
 
 -- what tells it of the steps behind a place, where the next step is one of them

@@ -4,19 +4,8 @@ use Rattle.std.specs.Prelude.{◌==◌, ◌&&◌, is_none, min, nat_lt, if◌the
 use Rattle.std.proofs.lemmas.Bool.{cases_Bool, cond-false, cond-true, false≢true}
 use Rattle.std.proofs.lemmas.Bool.Decides.{nat_tests}
 use Rattle.bus_signals.specs.declared.access.Access.{Access}
-use Rattle.debug_session.specs.Request.{most_steps}
-use Rattle.debug_session.specs.declared.command.Way.TheVariants.{Ahead}
-use Rattle.debug_session.specs.Cause.{behind, hit_on, hits}
-use Rattle.debug_session.specs.Place.{Run, no_step, sight_at, step_sight, view_of}
-use Rattle.debug_session.specs.Sight.{Sight}
-use Rattle.debug_session.specs.Stops.{Stops, is_empty}
-use Rattle.debug_session.specs.Watched.{hits_by, hits_of}
-use Rattle.debug_session.specs.declared.seen_accesses.SeenAccesses.{SeenAccesses}
-use Rattle.debug_session.specs.declared.watch.Hit.{Hit}
-use Rattle.debug_session.specs.declared.watch.Watch.{Watch}
-use Rattle.debug_walk.specs.Stretch.{stretch_from}
-use Rattle.debug_walk.specs.Walk.{TellsCause, stretch_there}
-use Rattle.debug_walk.specs.declared.stretch.Stretch.{Stretch}
+use Rattle.debug_session.specs.{Request.most_steps, declared.{command.Way.TheVariants.Ahead, seen_accesses.SeenAccesses.SeenAccesses, watch.{Hit.Hit, Watch.Watch}}, Cause.{behind, hit_on, hits}, Place.{Run, no_step, sight_at, step_sight, view_of}, Sight.Sight, Stops.{Stops, is_empty}, Watched.{hits_by, hits_of}}
+use Rattle.debug_walk.specs.{Stretch.stretch_from, Walk.{TellsCause, stretch_there}, declared.stretch.Stretch.Stretch}
 
 none-by : (access : Option Access) → hits_by access [] ≡ []
 none-by None = refl

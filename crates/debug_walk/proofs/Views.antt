@@ -1,15 +1,10 @@
 -- What a device shows in the middle of a run is what the place has where it stands.
 use Rattle.std.proofs.Common.{◌≡◌, ℕ, suc, Bool, List, Some, subst}
-use Rattle.bus_signals.specs.TraceFlag.{Flag}
-use Rattle.bus_signals.specs.declared.bus_record.BusRecord.{BusRecord}
+use Rattle.bus_signals.specs.{TraceFlag.Flag, declared.bus_record.BusRecord.BusRecord}
 use Rattle.hmac_core.specs.Hash.{Hash}
-use Rattle.device_trace.specs.Logs.{Logs, aux_of, exec_of}
-use Rattle.device_trace.specs.Progress.{last_registers, stands_at_boundary}
-use Rattle.device_trace.specs.Start.{Start}
-use Rattle.device_trace.specs.Trace.{last_record, logs_after, trace}
+use Rattle.device_trace.specs.{Logs.{Logs, aux_of, exec_of}, Progress.{last_registers, stands_at_boundary}, Start.Start, Trace.{last_record, logs_after, trace}}
 use Rattle.play_script.specs.declared.playback.Playback.{Playback}
-use Rattle.device_core.specs.Device.{OfLive, steps_made}
-use Rattle.device_core.specs.declared.live.Live.{Live}
+use Rattle.device_core.specs.{Device.{OfLive, steps_made}, declared.live.Live.Live}
 use Rattle.device_play.specs.Midway.{IsMidway}
 use Rattle.debug_session.specs.Place.{Run, aux_at, exec_at, logs_at, play_to, sight_at, step_at}
 

@@ -1,27 +1,16 @@
 -- What a walk keeps where it makes a step.
 use Rattle.std.proofs.Common.{◌≡◌, ◌≤◌, ◌∙◌, ◌⊎◌, ⊎_elim, ℕ, suc, Bool, true, false, List, Some, refl, ap, sym, subst}
 use Rattle.std.proofs.lemmas.Bool.{cases_Bool, cond-false, cond-true, false≢true}
-use Rattle.bus_signals.specs.TraceFlag.{Flag}
-use Rattle.bus_signals.specs.declared.bus_record.BusRecord.{BusRecord}
+use Rattle.bus_signals.specs.{TraceFlag.Flag, declared.bus_record.BusRecord.BusRecord}
 use Rattle.hmac_core.specs.Hash.{Hash}
-use Rattle.device_trace.specs.Logs.{aux_of, exec_of}
-use Rattle.device_trace.specs.Trace.{last_record, logs_after, trace}
+use Rattle.device_trace.specs.{Logs.{aux_of, exec_of}, Trace.{last_record, logs_after, trace}}
 use Rattle.play_script.specs.declared.playback.Playback.{Playback}
-use Rattle.device_core.specs.Device.{OfLive, steps_made}
-use Rattle.device_core.specs.declared.live.Live.{Live}
+use Rattle.device_core.specs.{Device.{OfLive, steps_made}, declared.live.Live.Live}
 use Rattle.device_play.specs.Midway.{IsMidway}
-use Rattle.debug_session.specs.Request.{most_steps}
-use Rattle.debug_session.specs.Place.{Run, aux_at, differs, exec_at, sight_at, step_at, step_sight, view_of}
-use Rattle.debug_session.specs.Sight.{Sight}
+use Rattle.debug_session.specs.{Request.most_steps, Place.{Run, aux_at, differs, exec_at, sight_at, step_at, step_sight, view_of}, Sight.Sight, Watched.{hits_of, seen_accesses}, declared.{seen_accesses.SeenAccesses.SeenAccesses, watch.Watch.Watch}}
 use Rattle.debug_session.proofs.Views.{view-at}
-use Rattle.debug_session.specs.Watched.{hits_of, seen_accesses}
-use Rattle.debug_session.specs.declared.seen_accesses.SeenAccesses.{SeenAccesses}
-use Rattle.debug_session.specs.declared.watch.Watch.{Watch}
-use Rattle.debug_walk.specs.Stretch.{stretch_from}
-use Rattle.debug_walk.specs.Walk.{IsStretch, stretch_there}
-use Rattle.debug_walk.specs.declared.stretch.Stretch.{Stretch}
-use Rattle.debug_walk.proofs.Views.{aux-at, exec-at, last-entry}
-use Rattle.debug_walk.proofs.StretchSteps.{KeepsBehind, keeps-all, keeps-none}
+use Rattle.debug_walk.specs.{Stretch.stretch_from, Walk.{IsStretch, stretch_there}, declared.stretch.Stretch.Stretch}
+use Rattle.debug_walk.proofs.{Views.{aux-at, exec-at, last-entry}, StretchSteps.{KeepsBehind, keeps-all, keeps-none}}
 
 -- the stretch to which the step at a place belongs keeps what lies behind
 module _ (watches : List Watch) (run : Run) (place : ℕ) (within : place ≤ most_steps)

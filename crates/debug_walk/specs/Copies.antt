@@ -2,11 +2,7 @@
 use Rattle.std.specs.Prelude.{◌≡◌, ◌<◌, ◌⊎◌, ℕ, true}
 use Rattle.std.specs.List.{All}
 use Rattle.debug_session.specs.Place.{Run, sight_at}
-use Rattle.debug_walk.specs.PlayedRun.{played_run}
-use Rattle.debug_walk.specs.Walk.{IsFresh, Walks, place_of}
-use Rattle.debug_walk.specs.declared.copies.Copies.{Copies}
-use Rattle.debug_walk.specs.declared.track.Track.{Track}
-use Rattle.debug_walk.specs.declared.walk.Walk.{Walk}
+use Rattle.debug_walk.specs.{PlayedRun.played_run, Walk.{IsFresh, Walks, place_of}, declared.{copies.Copies.Copies, track.Track.Track, walk.Walk.Walk}}
 use Rattle.hmac_core.specs.Hash.{Hash}
 
 -- a walk of a run, which stands at a boundary

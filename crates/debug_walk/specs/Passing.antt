@@ -1,12 +1,7 @@
 -- Steps in a row in which there is nothing to stop for.
 use Rattle.std.specs.Prelude.{◌≡◌, ◌≤◌, ◌<◌, ◌-◌, ◌&&◌, ◌⊎◌, ℕ, suc, Bool, true, false, Option, Some, None, [], length, not}
-use Rattle.bus_signals.specs.declared.access.Access.{Access}
-use Rattle.bus_signals.specs.declared.access.Access.TheVariants.{Fetch}
-use Rattle.bus_signals.specs.declared.kind.Kind.TheVariants.{Idle}
-use Rattle.debug_session.specs.Cause.{behind, hits, is_plain}
-use Rattle.debug_session.specs.Place.{Run, sight_at, view_of}
-use Rattle.debug_session.specs.Stops.{Stops, has_breakpoint}
-use Rattle.debug_session.specs.Watched.{is_hit}
+use Rattle.bus_signals.specs.{declared.{access.Access.{Access, TheVariants.Fetch}, kind.Kind.TheVariants.Idle}}
+use Rattle.debug_session.specs.{Cause.{behind, hits, is_plain}, Place.{Run, sight_at, view_of}, Stops.{Stops, has_breakpoint}, Watched.is_hit}
 
 -- an access at no breakpoint, which hits no watch; none where each instruction counts
 abbrev pub is_unasked : Stops → Access → Bool

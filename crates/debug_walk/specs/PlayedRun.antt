@@ -4,8 +4,7 @@ use Rattle.mem_map.specs.Image.{power_on_of}
 use Rattle.device_trace.specs.Start.{with_key}
 use Rattle.play_script.specs.Script.{events_of}
 use Rattle.debug_session.specs.Place.{Run}
-use Rattle.debug_walk.specs.Walk.{second_flag}
-use Rattle.debug_walk.specs.declared.run.Run.{Run as GivenRun}
+use Rattle.debug_walk.specs.{Walk.second_flag, declared.run.Run.Run as GivenRun}
 
 abbrev pub played_run : {D : Type 0} → Hash D → GivenRun → Run
 played_run hash run =

@@ -1,12 +1,8 @@
 -- What is kept of the steps since a boundary, from step to step.
 use Rattle.std.specs.Prelude.{ℕ, ◌==◌, ◌&&◌, ◌||◌, Bool, false, List, None}
 use Rattle.std.specs.Option.{option_or}
-use Rattle.bus_signals.specs.Kind.{is_boot, is_cpu, is_rom}
-use Rattle.bus_signals.specs.declared.bus_record.BusRecord.{BusRecord}
-use Rattle.bus_signals.specs.declared.kind.Kind.{Kind}
-use Rattle.debug_session.specs.Watched.{first_hit, hits_of, last_hit}
-use Rattle.debug_session.specs.declared.seen_accesses.SeenAccesses.{SeenAccesses}
-use Rattle.debug_session.specs.declared.watch.Watch.{Watch}
+use Rattle.bus_signals.specs.{Kind.{is_boot, is_cpu, is_rom}, declared.{bus_record.BusRecord.BusRecord, kind.Kind.Kind}}
+use Rattle.debug_session.specs.{Watched.{first_hit, hits_of, last_hit}, declared.{seen_accesses.SeenAccesses.SeenAccesses, watch.Watch.Watch}}
 use Rattle.debug_walk.specs.declared.stretch.Stretch.{Stretch}
 
 abbrev pub is_instruction : Kind → Bool

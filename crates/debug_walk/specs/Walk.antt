@@ -1,26 +1,15 @@
 -- A device on its way through the places of a run, and what is kept of the steps since a boundary.
 use Rattle.std.specs.Prelude.{◌≡◌, ◌<◌, ◌⊎◌, ◌&&◌, ◌-◌, ℕ, Bool, true, List, [], ◌∷◌, Option, None, length, nat_le, if◌then◌else◌}
 use Rattle.std.specs.Option.{option_or}
-use Rattle.bus_signals.specs.declared.rule.Rule.{Rule}
-use Rattle.bus_signals.specs.TraceFlag.{Flag}
-use Rattle.debug_session.specs.declared.command.Way.TheVariants.{Ahead, Back}
-use Rattle.debug_session.specs.Cause.{begins_within, behind, boots, hit_on, hits, is_due}
-use Rattle.debug_session.specs.Place.{Run, sight_at, view_of}
-use Rattle.debug_session.specs.Sight.{Sight}
-use Rattle.debug_session.specs.Stops.{Stops}
-use Rattle.debug_session.specs.declared.watch.Watch.{Watch}
-use Rattle.debug_walk.specs.Stretch.{stretch_from}
-use Rattle.debug_walk.specs.declared.stretch.Stretch.{Stretch}
-use Rattle.debug_walk.specs.declared.walk.Walk.{Walk}
-use Rattle.device_core.specs.Device.{steps_made}
-use Rattle.device_core.specs.declared.live.Live.{Live}
+use Rattle.bus_signals.specs.{declared.rule.Rule.Rule, TraceFlag.Flag}
+use Rattle.debug_session.specs.{declared.{command.Way.TheVariants.{Ahead, Back}, watch.Watch.Watch}, Cause.{begins_within, behind, boots, hit_on, hits, is_due}, Place.{Run, sight_at, view_of}, Sight.Sight, Stops.Stops}
+use Rattle.debug_walk.specs.{Stretch.stretch_from, declared.{stretch.Stretch.Stretch, walk.Walk.Walk}}
+use Rattle.device_core.specs.{Device.steps_made, declared.live.Live.Live}
 use Rattle.device_play.specs.Midway.{IsMidway}
-use Rattle.execution_flags.specs.RunFlag.{flag_of_run}
-use Rattle.execution_flags.specs.declared.run_flag.RunFlag.{RunFlag}
+use Rattle.execution_flags.specs.{RunFlag.flag_of_run, declared.{run_flag.RunFlag.RunFlag, aux_flag.AuxConditions.AuxConditions}}
 use Rattle.hmac_core.specs.Hash.{Hash}
 use Rattle.part_definitions.specs.TrustedFlag.{aux}
 use Rattle.play_script.specs.declared.playback.Playback.{Playback}
-use Rattle.execution_flags.specs.declared.aux_flag.AuxConditions.{AuxConditions}
 
 -- the second flag of its device
 abbrev pub AuxFlag : Type 0

@@ -1,8 +1,7 @@
 ghost use Rattle.std.specs.Prelude.{◌≡◌, ◌<◌, IfSome};
 ghost use Rattle.std.specs.List.{All};
 ghost use Rattle.debug_session.specs.Place.{Run};
-ghost use Rattle.debug_walk.specs.Copies.{AreCopies, IsCopy};
-ghost use Rattle.debug_walk.specs.Walk.{Walks, place_of};
+ghost use Rattle.debug_walk.specs.{Copies.{AreCopies, IsCopy}, Walk.{Walks, place_of}};
 
 use crate::walk::Walk;
 use hmac_core::Digest32;

@@ -1,7 +1,6 @@
 ghost use Rattle.std.specs.Prelude.{◌≡◌, ℕ, Some, min, true};
 ghost use Rattle.device_core.specs.Device.{LiveStandsFor};
-ghost use Rattle.debug_session.specs.Place.{Run, is_shown, play_to, sight_at};
-ghost use Rattle.debug_session.specs.Shown.{bytes_shown, registers_bytes};
+ghost use Rattle.debug_session.specs.{Place.{Run, is_shown, play_to, sight_at}, Shown.{bytes_shown, registers_bytes}};
 ghost use Rattle.debug_walk.specs.Walk.{OfWalk};
 
 use crate::walk::Walk;

@@ -1,13 +1,7 @@
 ghost use Rattle.std.specs.Prelude.{◌≡◌, ◌<◌, ◌≤◌, ◌+◌, ◌-◌, ◌⊎◌, ◌||◌, Bool, IfOk, IfSome, false, max, min, true};
 ghost use Rattle.part_definitions.specs.CpuRegister.{is_asleep, pc_of};
-ghost use Rattle.debug_session.specs.Request.{most_steps};
-ghost use Rattle.debug_session.specs.Cause.{is_awake, is_broken_at, is_due};
-ghost use Rattle.debug_session.specs.Place.{Run, differs, sight_at};
-ghost use Rattle.debug_session.specs.Stops.{Stops, is_empty};
-ghost use Rattle.debug_walk.specs.Copies.{IsCopy};
-ghost use Rattle.debug_walk.specs.Passing.{ArePassed, AreSilent, IsCapped};
-ghost use Rattle.debug_walk.specs.Stretch.{stretch_from};
-ghost use Rattle.debug_walk.specs.Walk.{IsStretch, OfMidway, OfWalk, TellsCause, Walks, place_of, stretch_there};
+ghost use Rattle.debug_session.specs.{Request.most_steps, Cause.{is_awake, is_broken_at, is_due}, Place.{Run, differs, sight_at}, Stops.{Stops, is_empty}};
+ghost use Rattle.debug_walk.specs.{Copies.IsCopy, Passing.{ArePassed, AreSilent, IsCapped}, Stretch.stretch_from, Walk.{IsStretch, OfMidway, OfWalk, TellsCause, Walks, place_of, stretch_there}};
 ghost use Rattle.device_core.specs.Device.{HasStepped, steps_made};
 
 use crate::passing::Passing;

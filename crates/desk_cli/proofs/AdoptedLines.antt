@@ -3,12 +3,9 @@ use Rattle.std.proofs.Common.{◌≡◌, List, Option, Some, None, Result, refl,
 use Rattle.std.specs.Result.{result_err}
 use Rattle.text_scan.specs.declared.fault_at.FaultAt.{FaultAt}
 use Rattle.desk_memory.specs.declared.memory.Memory as memory
-use Rattle.desk_memory.specs.declared.memory_fault.MemoryFault.{MemoryFault}
-use Rattle.desk_memory.specs.Entry.{Entry, with_entries}
-use Rattle.desk_memory.specs.Moving.{entries_on_arrival}
+use Rattle.desk_memory.specs.{declared.memory_fault.MemoryFault.MemoryFault, Entry.{Entry, with_entries}, Moving.entries_on_arrival}
 use Rattle.input_files.specs.declared.status.Status.{Status}
-use Rattle.desk_cli.specs.Adopt.{AdoptsIf, IsUntaken}
-use Rattle.desk_cli.specs.Noting.{HasNoted, status_of_noted}
+use Rattle.desk_cli.specs.{Adopt.{AdoptsIf, IsUntaken}, Noting.{HasNoted, status_of_noted}}
 
 pub adopts-all : {M : Type 0} (m : memory.Ghosts M) (opened left : M)
     (entries lines new : List Entry) (fault : Option FaultAt) (result : Result Unit MemoryFault)

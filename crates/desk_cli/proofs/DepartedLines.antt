@@ -5,8 +5,7 @@ use Rattle.std.specs.Option.{is_some}
 use Rattle.std.specs.Str.{bytes_eq}
 use Rattle.std.proofs.lemmas.Bool.{cases_Bool}
 use Rattle.std.proofs.lemmas.Slice.Eq.{bytes_eq-Decides}
-use Rattle.desk_memory.specs.Entry.{Entry, Home, home_of, is_replaced, last_in, with_entry}
-use Rattle.desk_memory.specs.Moving.{at_home, with_departure, gone_to, lines_at, moved_lines}
+use Rattle.desk_memory.specs.{Entry.{Entry, Home, home_of, is_replaced, last_in, with_entry}, Moving.{at_home, with_departure, gone_to, lines_at, moved_lines}}
 use Rattle.desk_memory.proofs.Noted.{entry_is_last, last_named}
 
 kept-before : (entry : Entry) (later : List Entry) (new : Entry)

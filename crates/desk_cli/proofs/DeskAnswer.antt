@@ -6,24 +6,13 @@ use Rattle.outside_edge.specs.declared.sink.Sink as sink
 use Rattle.outside_edge.specs.declared.source.Source as source
 use Rattle.report_verifier.specs.Policy.{PolicyFields}
 use Rattle.desk_memory.specs.declared.memory.Memory as memory
-use Rattle.desk_memory.specs.Entry.{Entry}
-use Rattle.desk_memory.specs.NoMemory.{forgets}
-use Rattle.verifier_desk.specs.DeviceKey.{DeviceKey}
-use Rattle.verifier_desk.specs.Replies.{DeskFields}
-use Rattle.input_files.specs.declared.refusal.Refusal.{Refusal}
-use Rattle.input_files.specs.declared.status.Status.{Status}
-use Rattle.input_files.specs.declared.status.Status.TheVariants.{Words}
-use Rattle.input_files.specs.Reading.{Reaches, Reads}
-use Rattle.input_files.specs.Row.{RowOf, Ends}
-use Rattle.input_files.specs.Status.{status_of_refusal}
-use Rattle.input_files.proofs.Complete.{refused-complete, told-complete}
-use Rattle.input_files.proofs.Refused.{refused-words}
-use Rattle.desk_cli.specs.Desk.{DeskNames, DeskValues, HasServed, IsDeskAnswer, Meets, ServesFrom, desk_row}
+use Rattle.desk_memory.specs.{Entry.Entry, NoMemory.forgets}
+use Rattle.verifier_desk.specs.{DeviceKey.DeviceKey, Replies.DeskFields}
+use Rattle.input_files.specs.{declared.{refusal.Refusal.Refusal, status.Status.{Status, TheVariants.Words}}, Reading.{Reaches, Reads}, Row.{RowOf, Ends}, Status.status_of_refusal}
+use Rattle.input_files.proofs.{Complete.{refused-complete, told-complete}, Refused.refused-words}
+use Rattle.desk_cli.specs.{Desk.{DeskNames, DeskValues, HasServed, IsDeskAnswer, Meets, ServesFrom, desk_row}, MemoryFiles.ToldMemories}
 use Rattle.source_server.specs.Ports.{Ports}
-use Rattle.desk_cli.specs.MemoryFiles.{ToldMemories}
-use Rattle.desk_cli.proofs.DeskComplete.{serves-whole}
-use Rattle.desk_cli.proofs.DeskInput.{refused-limit, serves-limit}
-use Rattle.desk_cli.proofs.NoWords.{served-words, uses-words}
+use Rattle.desk_cli.proofs.{DeskComplete.serves-whole, DeskInput.{refused-limit, serves-limit}, NoWords.{served-words, uses-words}}
 
 -- the end of its row, once its files have values
 abbrev pub desk_end : List DeviceKey × ((ℕ → Option ℕ) × PolicyFields) → RowOf DeskValues

@@ -9,28 +9,14 @@ use Rattle.outside_edge.specs.declared.sink.Sink as sink
 use Rattle.outside_edge.specs.declared.source.Source as source
 use Rattle.outside_edge.proofs.Counts.{never_rises}
 use Rattle.desk_memory.specs.declared.memory.Memory as memory
-use Rattle.desk_memory.specs.declared.memory_fault.MemoryFault.{MemoryFault}
-use Rattle.desk_memory.specs.declared.no_memory.NoMemory.{NoMemory}
-use Rattle.desk_memory.specs.Entry.{Entry, home_of, last_in}
-use Rattle.desk_memory.specs.NoMemory.{forgets}
-use Rattle.source_server.specs.declared.halt.Halt.{Halt}
+use Rattle.desk_memory.specs.{declared.{memory_fault.MemoryFault.MemoryFault, no_memory.NoMemory.NoMemory}, Entry.{Entry, home_of, last_in}, NoMemory.forgets}
+use Rattle.source_server.specs.{declared.halt.Halt.Halt, Serving.served_of, Taken.most_input, Ports.Ports}
 use Rattle.source_server.specs.declared.halt.Halt.TheVariants as halt
-use Rattle.source_server.specs.Serving.{served_of}
-use Rattle.source_server.specs.Taken.{most_input}
 use Rattle.source_server.proofs.ServedEnds.{whole_or_stopped}
-use Rattle.verifier_desk.specs.declared.answer_fault.AnswerFault.{AnswerFault}
+use Rattle.verifier_desk.specs.{declared.answer_fault.AnswerFault.AnswerFault, DeviceKey.DeviceKey, Gone.first_gone, KeyOwner.KeysStandApart, Replies.DeskFields, Serving.{HasFailed, Outside, desk_promise}}
 use Rattle.verifier_desk.specs.declared.answer_fault.AnswerFault.TheVariants as fault
-use Rattle.verifier_desk.specs.DeviceKey.{DeviceKey}
-use Rattle.verifier_desk.specs.Gone.{first_gone}
-use Rattle.verifier_desk.specs.KeyOwner.{KeysStandApart}
-use Rattle.verifier_desk.specs.Replies.{DeskFields}
-use Rattle.verifier_desk.specs.Serving.{HasFailed, Outside, desk_promise}
-use Rattle.input_files.specs.declared.status.Status.{Status}
-use Rattle.input_files.specs.declared.status.Status.TheVariants.{Done, Memory}
-use Rattle.desk_cli.specs.Desk.{DeskValues, HasServed, IsTaken, MayServe, Meets, ServesFrom}
-use Rattle.source_server.specs.Ports.{Ports}
-use Rattle.desk_cli.specs.MemoryFiles.{ToldMemories}
-use Rattle.desk_cli.specs.Status.{status_of_served, status_of_unkept, status_of_unopened}
+use Rattle.input_files.specs.{declared.status.Status.{Status, TheVariants.{Done, Memory}}}
+use Rattle.desk_cli.specs.{Desk.{DeskValues, HasServed, IsTaken, MayServe, Meets, ServesFrom}, MemoryFiles.ToldMemories, Status.{status_of_served, status_of_unkept, status_of_unopened}}
 
 -- all lines were answered, or memory ran out
 abbrev pub IsWhole : Status → Type 0

@@ -3,27 +3,16 @@ use Rattle.std.proofs.Common.{◌≡◌, ℕ, List, Option, Some, None, refl, in
 use Rattle.outside_edge.specs.declared.sink.Sink as sink
 use Rattle.outside_edge.specs.declared.source.Source as source
 use Rattle.desk_memory.specs.declared.memory.Memory as memory
-use Rattle.desk_memory.specs.declared.memory_fault.MemoryFault.{MemoryFault}
-use Rattle.desk_memory.specs.Entry.{Entry}
-use Rattle.desk_memory.specs.NoMemory.{forgets}
+use Rattle.desk_memory.specs.{declared.memory_fault.MemoryFault.MemoryFault, Entry.Entry, NoMemory.forgets}
 use Rattle.desk_database.specs.declared.memory_file_fault.MemoryFileFault.{MemoryFileFault}
-use Rattle.source_server.specs.declared.served.Served.{Served}
+use Rattle.source_server.specs.{declared.served.Served.Served, Taken.KeepsLimit, Ports.Ports}
 use Rattle.source_server.specs.declared.served.Served.TheVariants as served
-use Rattle.source_server.specs.Taken.{KeepsLimit}
 use Rattle.source_server.proofs.ServedEnds.{keeps_limit}
-use Rattle.verifier_desk.specs.declared.answer_fault.AnswerFault.{AnswerFault}
+use Rattle.verifier_desk.specs.{declared.answer_fault.AnswerFault.AnswerFault, Replies.DeskFields, Serving.desk_promise}
 use Rattle.verifier_desk.specs.declared.answer_fault.AnswerFault.TheVariants as fault
-use Rattle.verifier_desk.specs.Replies.{DeskFields}
-use Rattle.verifier_desk.specs.Serving.{desk_promise}
-use Rattle.input_files.specs.declared.refusal.Refusal.{Refusal}
-use Rattle.input_files.specs.declared.status.Status.{Status}
-use Rattle.input_files.specs.declared.status.Status.TheVariants.{Spent}
-use Rattle.input_files.specs.Status.{status_of_refusal}
+use Rattle.input_files.specs.{declared.{refusal.Refusal.Refusal, status.Status.{Status, TheVariants.Spent}}, Status.status_of_refusal}
 use Rattle.input_files.proofs.Refused.{refused-spent}
-use Rattle.desk_cli.specs.Desk.{DeskValues, HasServed, Meets, ServesFrom}
-use Rattle.source_server.specs.Ports.{Ports}
-use Rattle.desk_cli.specs.MemoryFiles.{ToldMemories}
-use Rattle.desk_cli.specs.Status.{status_of_served, status_of_unkept, status_of_unopened}
+use Rattle.desk_cli.specs.{Desk.{DeskValues, HasServed, Meets, ServesFrom}, MemoryFiles.ToldMemories, Status.{status_of_served, status_of_unkept, status_of_unopened}}
 
 unkept-spent : (fault : MemoryFault) → status_of_unkept fault ≡ Spent → ⊥
 unkept-spent = search rules

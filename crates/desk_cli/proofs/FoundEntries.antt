@@ -6,22 +6,12 @@ use Rattle.sqlite_disk.specs.declared.Disk.{Ghosts}
 use Rattle.sqlite_wal.specs.Recovery.{Image}
 use Rattle.sqlite_pool.specs.Stored.{RecoversAs}
 use Rattle.sqlite_store.specs.declared.store.FileStore.{FileStore}
-use Rattle.desk_memory.specs.Entry.{Entry}
-use Rattle.desk_memory.specs.SizedEntry.{are_sized}
-use Rattle.desk_database.specs.Fault.{IsOfPath}
-use Rattle.desk_database.specs.Held.{HoldsMemory, HoldsNothing}
-use Rattle.desk_database.specs.Opening.{FailsAs, IsCleanLeft, IsMadeOver, IsOpenOver, Leaves, WhyUnmade, WhyUnopened}
+use Rattle.desk_memory.specs.{Entry.Entry, SizedEntry.are_sized}
+use Rattle.desk_database.specs.{Fault.IsOfPath, Held.{HoldsMemory, HoldsNothing}, Opening.{FailsAs, IsCleanLeft, IsMadeOver, IsOpenOver, Leaves, WhyUnmade, WhyUnopened}, MemoryTables.page_size, declared.{left.Left.Left, memory_file_fault.MemoryFileFault.{MemoryFileFault, TheVariants.{Place, Missing, InUse, HotJournal, Foreign, Disk, Full, OutOfMemory, Unfounded, Founded, OtherLog}}}}
 use Rattle.desk_database.specs.Opening as opening
-use Rattle.desk_database.specs.MemoryTables.{page_size}
-use Rattle.desk_database.specs.declared.left.Left.{Left}
 use Rattle.desk_database.specs.declared.left.Left.TheVariants as left
-use Rattle.desk_database.specs.declared.memory_file_fault.MemoryFileFault.{MemoryFileFault}
-use Rattle.desk_database.specs.declared.memory_file_fault.MemoryFileFault.TheVariants.{Place, Missing, InUse, HotJournal, Foreign, Disk, Full, OutOfMemory, Unfounded, Founded, OtherLog}
-use Rattle.desk_database.proofs.FoundOnce.{not_founded, not_unfounded}
-use Rattle.desk_database.proofs.HeldLemmas.{memory_carried, memory_is_something}
-use Rattle.desk_cli.specs.declared.refusals.Refusals.{Refusals}
-use Rattle.desk_cli.specs.MemoryFiles.{IsUnopened, Request, ToldMemories}
-use Rattle.desk_cli.specs.StoreFiles.{FindsIn, FindsLeft, FindsNow, IsFullLeft, FailsNow, IsCounted, IsFullNow, IsHonestNow, LeavesNow, faults_left, faults_now, keeps_as, told_over, why_of}
+use Rattle.desk_database.proofs.{FoundOnce.{not_founded, not_unfounded}, HeldLemmas.{memory_carried, memory_is_something}}
+use Rattle.desk_cli.specs.{declared.refusals.Refusals.Refusals, MemoryFiles.{IsUnopened, Request, ToldMemories}, StoreFiles.{FindsIn, FindsLeft, FindsNow, IsFullLeft, FailsNow, IsCounted, IsFullNow, IsHonestNow, LeavesNow, faults_left, faults_now, keeps_as, told_over, why_of}}
 
 module _ {D : Type 0} {g : Ghosts D} (image : Image) (store : FileStore D g) (desk : List ℕ)
     (entries : List Entry) (opened : IsOpenOver image store desk entries) where

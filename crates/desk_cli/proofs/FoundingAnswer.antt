@@ -4,16 +4,9 @@ use Rattle.outside_edge.specs.Shelf.{KeepsFiles}
 use Rattle.outside_edge.specs.declared.shelf.Shelf as shelves
 use Rattle.desk_memory.specs.declared.memory.Memory as memory
 use Rattle.desk_memory.specs.Entry.{Entry}
-use Rattle.input_files.specs.declared.refusal.Refusal.{Refusal}
-use Rattle.input_files.specs.declared.status.Status.{Status}
-use Rattle.input_files.specs.declared.status.Status.TheVariants.{Words}
-use Rattle.input_files.specs.Reading.{IsUnread, Reaches, Reads}
-use Rattle.input_files.specs.Row.{RowOf}
-use Rattle.input_files.specs.Status.{status_of_refusal}
+use Rattle.input_files.specs.{declared.{refusal.Refusal.Refusal, status.Status.{Status, TheVariants.Words}}, Reading.{IsUnread, Reaches, Reads}, Row.RowOf, Status.status_of_refusal}
 use Rattle.input_files.proofs.Refused.{refused-words}
-use Rattle.desk_cli.specs.Founding.{FoundNames, FoundsIf, IsFoundAnswer, IsRememberAnswer, RememberNames, states_row}
-use Rattle.desk_cli.specs.MemoryFiles.{Making, ToldMemories}
-use Rattle.desk_cli.specs.StateFile.{NumberedEntries}
+use Rattle.desk_cli.specs.{Founding.{FoundNames, FoundsIf, IsFoundAnswer, IsRememberAnswer, RememberNames, states_row}, MemoryFiles.{Making, ToldMemories}, StateFile.NumberedEntries}
 use Rattle.desk_cli.proofs.NoWords.{lacks-words, notes-words}
 
 founds-words : {F M : Type 0} (told : ToldMemories F M) (m : memory.Ghosts M)

@@ -6,23 +6,10 @@ use Rattle.outside_edge.specs.declared.shelf.Shelf as shelves
 use Rattle.outside_edge.specs.declared.sink.Sink as sink
 use Rattle.text_scan.specs.declared.fault_at.FaultAt.{FaultAt}
 use Rattle.desk_memory.specs.declared.memory.Memory as memory
-use Rattle.desk_memory.specs.declared.memory_fault.MemoryFault.{MemoryFault}
-use Rattle.desk_memory.specs.Entry.{Entry, last_in}
-use Rattle.input_files.specs.declared.refusal.Refusal.{Refusal}
-use Rattle.input_files.specs.declared.status.Status.{Status}
-use Rattle.input_files.specs.declared.status.Status.TheVariants.{Words}
-use Rattle.input_files.specs.declared.unfit.Unfit.{Unfit}
-use Rattle.input_files.specs.Reading.{Reaches, Reads}
-use Rattle.input_files.specs.Row.{RowOf}
-use Rattle.input_files.specs.Status.{status_of_refusal}
-use Rattle.desk_cli.specs.Adopt.{AdoptNames, Adopts, AdoptsIf, IsAdoptAnswer, first_refused}
-use Rattle.desk_cli.specs.Founding.{states_row}
-use Rattle.desk_cli.specs.MemoryFiles.{ToldMemories, UsesIf}
-use Rattle.desk_cli.specs.Move.{Departs, IsMoveAnswer, MoveNames, Moves, departure}
-use Rattle.desk_cli.specs.StateFile.{NumberedEntries}
-use Rattle.desk_cli.specs.Status.{status_of_unkept}
-use Rattle.desk_cli.proofs.FoundingAnswer.{unread-words}
-use Rattle.desk_cli.proofs.NoWords.{notes-words, puts-words, unkept-words, uses-words}
+use Rattle.desk_memory.specs.{declared.memory_fault.MemoryFault.MemoryFault, Entry.{Entry, last_in}}
+use Rattle.input_files.specs.{declared.{refusal.Refusal.Refusal, status.Status.{Status, TheVariants.Words}, unfit.Unfit.Unfit}, Reading.{Reaches, Reads}, Row.RowOf, Status.status_of_refusal}
+use Rattle.desk_cli.specs.{Adopt.{AdoptNames, Adopts, AdoptsIf, IsAdoptAnswer, first_refused}, Founding.states_row, MemoryFiles.{ToldMemories, UsesIf}, Move.{Departs, IsMoveAnswer, MoveNames, Moves, departure}, StateFile.NumberedEntries, Status.status_of_unkept}
+use Rattle.desk_cli.proofs.{FoundingAnswer.unread-words, NoWords.{notes-words, puts-words, unkept-words, uses-words}}
 
 fails-words : (result : Option MemoryFault) (status : Status) (Rest : Type 0)
     → (result ≡ None → status ≡ Words → ⊥)

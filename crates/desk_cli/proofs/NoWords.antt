@@ -1,9 +1,8 @@
 -- No part of a run answers that the words are no command.
 use Rattle.std.proofs.Common.{◌≡◌, ℕ, List, Option, Some, None, inl, inr}
 use Rattle.desk_memory.specs.declared.memory.Memory as memory
-use Rattle.desk_memory.specs.declared.memory_fault.MemoryFault.{MemoryFault}
+use Rattle.desk_memory.specs.{declared.memory_fault.MemoryFault.MemoryFault, Entry.Entry}
 use Rattle.desk_memory.specs.declared.memory_fault.MemoryFault.TheVariants as kept
-use Rattle.desk_memory.specs.Entry.{Entry}
 use Rattle.desk_database.specs.declared.memory_file_fault.MemoryFileFault.{MemoryFileFault}
 use Rattle.desk_database.specs.declared.memory_file_fault.MemoryFileFault.TheVariants as opened
 use Rattle.source_server.specs.declared.served.Served.{Served}
@@ -11,12 +10,8 @@ use Rattle.source_server.specs.declared.served.Served.TheVariants as served
 use Rattle.verifier_desk.specs.declared.answer_fault.AnswerFault.{AnswerFault}
 use Rattle.verifier_desk.specs.declared.answer_fault.AnswerFault.TheVariants as fault
 use Rattle.outside_edge.specs.declared.sink.Sink as sink
-use Rattle.input_files.specs.declared.status.Status.{Status}
-use Rattle.input_files.specs.declared.status.Status.TheVariants.{Words}
-use Rattle.desk_cli.specs.MemoryFiles.{LacksMemory, Opening, Request, ToldMemories, UsesIf}
-use Rattle.desk_cli.specs.Noting.{NotesAll, status_of_noted}
-use Rattle.desk_cli.specs.States.{PutsText}
-use Rattle.desk_cli.specs.Status.{status_of_served, status_of_unkept, status_of_unopened}
+use Rattle.input_files.specs.{declared.status.Status.{Status, TheVariants.Words}}
+use Rattle.desk_cli.specs.{MemoryFiles.{LacksMemory, Opening, Request, ToldMemories, UsesIf}, Noting.{NotesAll, status_of_noted}, States.PutsText, Status.{status_of_served, status_of_unkept, status_of_unopened}}
 
 pub unopened-words : (fault : MemoryFileFault) → status_of_unopened fault ≡ Words → ⊥
 unopened-words opened.Missing is = cc is

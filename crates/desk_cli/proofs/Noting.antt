@@ -4,9 +4,7 @@ use Rattle.std.specs.Prelude.{IfErr, IsErrAnd, OnOk}
 use Rattle.std.specs.Result.{result_err}
 use Rattle.std.proofs.lemmas.List.{take_more}
 use Rattle.desk_memory.specs.declared.memory.Memory as memory
-use Rattle.desk_memory.specs.declared.memory_fault.MemoryFault.{MemoryFault}
-use Rattle.desk_memory.specs.Entry.{Entry, with_entries, with_entry}
-use Rattle.desk_memory.specs.Kept.{IsKept, LeavesOr}
+use Rattle.desk_memory.specs.{declared.memory_fault.MemoryFault.MemoryFault, Entry.{Entry, with_entries, with_entry}, Kept.{IsKept, LeavesOr}}
 use Rattle.verifier_desk.specs.Serving.{HasFailed}
 use Rattle.desk_cli.specs.Noting.{HasNoted}
 

@@ -6,26 +6,14 @@ use Rattle.std.specs.Str.{bytes_eq}
 use Rattle.std.proofs.lemmas.Bool.{and_parts, eqb-true, leb-true}
 use Rattle.std.proofs.lemmas.Slice.Eq.{bytes_eq-Decides}
 use Rattle.printed_lines.specs.Line.{with_pieces}
-use Rattle.text_scan.specs.Decimal.{decimal_of}
-use Rattle.text_scan.specs.WordValue.{hex_block_of}
+use Rattle.text_scan.specs.{Decimal.decimal_of, WordValue.hex_block_of, FaultName.fault_name}
 use Rattle.named_value.specs.Names.{value_named}
-use Rattle.text_scan.proofs.NamedWord.{value_of-name}
-use Rattle.text_scan.proofs.PlainWords.{decimal_of-decimal, hex_bytes_of-digits}
+use Rattle.text_scan.proofs.{NamedWord.value_of-name, PlainWords.{decimal_of-decimal, hex_bytes_of-digits}}
 use Rattle.report_verifier.specs.VerdictName.{verdict_name}
-use Rattle.desk_memory.specs.declared.answer.Answer.{Answer}
-use Rattle.desk_memory.specs.declared.answer.Answer.TheVariants.{Stale, Bad, Spent, Requested, Judged}
-use Rattle.desk_memory.specs.declared.device_state.DeviceState.{DeviceState}
-use Rattle.desk_memory.specs.AnswerText.{answer_text, answer_words}
+use Rattle.desk_memory.specs.{declared.{answer.Answer.{Answer, TheVariants.{Stale, Bad, Spent, Requested, Judged}}, device_state.DeviceState.DeviceState}, AnswerText.{answer_text, answer_words}, Entry.{Entry, first_home}, SizedEntry.{is_short, is_short_answer, is_short_line, is_short_number, is_sized}}
 use Rattle.desk_database.proofs.AnswerWords.{answer-read, count-read, short}
-use Rattle.desk_memory.specs.Entry.{Entry, first_home}
-use Rattle.text_scan.specs.FaultName.{fault_name}
-use Rattle.desk_memory.specs.SizedEntry.{is_short, is_short_answer, is_short_line, is_short_number, is_sized}
 use Rattle.verifier_desk.specs.DeviceKey.{name_fault}
-use Rattle.desk_cli.specs.declared.line_form.LineForm.{LineForm}
-use Rattle.desk_cli.specs.declared.line_form.LineForm.TheVariants.{VersionOne}
-use Rattle.desk_cli.specs.ReadBack.{IsWritable, is_made}
-use Rattle.desk_cli.specs.StateFile.{entry_of, home_said, last_of, last_with, moves_of, name_of, number_in, outstanding_of, state_of}
-use Rattle.desk_cli.specs.StateText.{desk_pieces, form_for, form_name, form_names, last_pieces, moves_pieces, number_piece, state_pieces}
+use Rattle.desk_cli.specs.{declared.line_form.LineForm.{LineForm, TheVariants.VersionOne}, ReadBack.{IsWritable, is_made}, StateFile.{entry_of, home_said, last_of, last_with, moves_of, name_of, number_in, outstanding_of, state_of}, StateText.{desk_pieces, form_for, form_name, form_names, last_pieces, moves_pieces, number_piece, state_pieces}}
 
 -- an answer's text is its words
 pub answer_text_pieces : (text : List ℕ) (answer : Answer)

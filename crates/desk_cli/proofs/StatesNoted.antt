@@ -4,8 +4,7 @@ use Rattle.std.specs.List.{All}
 use Rattle.std.proofs.lemmas.Bool.{cases_Bool}
 use Rattle.desk_memory.specs.Entry.{Entry, is_replaced, with_entries, with_entry}
 use Rattle.desk_cli.specs.ReadBack.{AreNotable, IsWritable}
-use Rattle.desk_cli.proofs.StatesBehind.{noted-behind, stand_behind}
-use Rattle.desk_cli.proofs.StatesGoOn.{go_on, noted-goes-on}
+use Rattle.desk_cli.proofs.{StatesBehind.{noted-behind, stand_behind}, StatesGoOn.{go_on, noted-goes-on}}
 
 -- each entry is one of which this holds
 abbrev pub Each : (Entry → Type 0) → List Entry → Type 0

@@ -3,19 +3,11 @@
 use Rattle.std.specs.Prelude.{◌≡◌, ◌⊎◌, ◌↔◌, ◌+◌, ℕ, List, [], ◌∷◌, slice_index_or, Option, Some, None, IfSome, Ok}
 use Rattle.outside_edge.specs.Shelf.{KeepsFiles}
 use Rattle.outside_edge.specs.declared.shelf.Shelf as shelves
-use Rattle.text_scan.specs.declared.fault_at.FaultAt.{FaultAt}
-use Rattle.text_scan.specs.declared.fault_kind.FaultKind.{FaultKind}
+use Rattle.text_scan.specs.{declared.{fault_at.FaultAt.FaultAt, fault_kind.FaultKind.FaultKind}}
 use Rattle.desk_memory.specs.declared.memory.Memory as memory
-use Rattle.desk_memory.specs.Entry.{Entry}
-use Rattle.desk_memory.specs.Moving.{with_arrivals, adoption_fault}
-use Rattle.input_files.specs.declared.bad_file.BadFile.TheVariants.{States}
-use Rattle.input_files.specs.declared.status.Status.{Status}
-use Rattle.input_files.specs.declared.status.Status.TheVariants.{Bad, Memory, Words}
-use Rattle.input_files.specs.Reading.{IsUnread, Reaches}
-use Rattle.desk_cli.specs.Founding.{states_row}
-use Rattle.desk_cli.specs.MemoryFiles.{ToldMemories, UsesIf}
-use Rattle.desk_cli.specs.Noting.{NotesAll}
-use Rattle.desk_cli.specs.StateFile.{NumberedEntries}
+use Rattle.desk_memory.specs.{Entry.Entry, Moving.{with_arrivals, adoption_fault}}
+use Rattle.input_files.specs.{declared.{bad_file.BadFile.TheVariants.States, status.Status.{Status, TheVariants.{Bad, Memory, Words}}}, Reading.{IsUnread, Reaches}}
+use Rattle.desk_cli.specs.{Founding.states_row, MemoryFiles.{ToldMemories, UsesIf}, Noting.NotesAll, StateFile.NumberedEntries}
 
 -- the names of the lines and of the memory
 pub record AdoptNames : Type 0 where

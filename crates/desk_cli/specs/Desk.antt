@@ -1,36 +1,17 @@
 -- The command `desk`: it serves devices over the lines of a source.
 use Rattle.std.specs.Prelude.{◌≡◌, ◌<◌, ◌≤◌, ◌⊎◌, ◌↔◌, ◌+◌, ℕ, List, [], ◌∷◌, length, Option, Some, None, IfSome, Ok}
 use Rattle.sha2.specs.Sha256.{sha256}
-use Rattle.outside_edge.specs.Count.{Rose}
-use Rattle.outside_edge.specs.Shelf.{KeepsFiles}
+use Rattle.outside_edge.specs.{Count.Rose, Shelf.KeepsFiles}
 use Rattle.outside_edge.specs.declared.shelf.Shelf as shelves
 use Rattle.outside_edge.specs.declared.sink.Sink as sink
 use Rattle.outside_edge.specs.declared.source.Source as source
 use Rattle.report_verifier.specs.Policy.{PolicyFields}
 use Rattle.desk_memory.specs.declared.memory.Memory as memory
-use Rattle.desk_memory.specs.declared.no_memory.NoMemory.{NoMemory}
-use Rattle.desk_memory.specs.Entry.{Entry}
-use Rattle.desk_memory.specs.NoMemory.{forgets}
-use Rattle.source_server.specs.declared.served.Served.{Served}
-use Rattle.source_server.specs.Serving.{Serves}
-use Rattle.source_server.specs.Taken.{KeepsLimit, most_input}
-use Rattle.verifier_desk.specs.declared.answer_fault.AnswerFault.{AnswerFault}
-use Rattle.verifier_desk.specs.Desk.{desk_with}
-use Rattle.verifier_desk.specs.DeviceKey.{DeviceKey}
-use Rattle.verifier_desk.specs.Gone.{first_gone}
-use Rattle.verifier_desk.specs.KeyOwner.{IsFirstTaken, KeysStandApart}
-use Rattle.verifier_desk.specs.Replies.{DeskFields}
-use Rattle.verifier_desk.specs.Serving.{desk_promise}
-use Rattle.input_files.specs.declared.status.Status.{Status}
-use Rattle.input_files.specs.declared.status.Status.TheVariants.{BadMemory, Done, Memory, Spent, Words}
-use Rattle.input_files.specs.declared.unfit.Unfit.TheVariants.{GoneDevice, TakenKey}
-use Rattle.input_files.specs.FileKind.{image_kind}
-use Rattle.input_files.specs.Reading.{IsUnread, Reaches, first_refusal}
-use Rattle.input_files.specs.Row.{RowOf, Ends, read_file}
-use Rattle.source_server.specs.Ports.{Ports}
-use Rattle.desk_cli.specs.FileKind.{desk_policy_kind, keys_kind}
-use Rattle.desk_cli.specs.MemoryFiles.{IsUnhindered, ToldMemories, UsesIf}
-use Rattle.desk_cli.specs.Status.{status_of_served}
+use Rattle.desk_memory.specs.{declared.no_memory.NoMemory.NoMemory, Entry.Entry, NoMemory.forgets}
+use Rattle.source_server.specs.{declared.served.Served.Served, Serving.Serves, Taken.{KeepsLimit, most_input}, Ports.Ports}
+use Rattle.verifier_desk.specs.{declared.answer_fault.AnswerFault.AnswerFault, Desk.desk_with, DeviceKey.DeviceKey, Gone.first_gone, KeyOwner.{IsFirstTaken, KeysStandApart}, Replies.DeskFields, Serving.desk_promise}
+use Rattle.input_files.specs.{declared.{status.Status.{Status, TheVariants.{BadMemory, Done, Memory, Spent, Words}}, unfit.Unfit.TheVariants.{GoneDevice, TakenKey}}, FileKind.image_kind, Reading.{IsUnread, Reaches, first_refusal}, Row.{RowOf, Ends, read_file}}
+use Rattle.desk_cli.specs.{FileKind.{desk_policy_kind, keys_kind}, MemoryFiles.{IsUnhindered, ToldMemories, UsesIf}, Status.status_of_served}
 
 -- the names of its files
 pub record DeskNames : Type 0 where

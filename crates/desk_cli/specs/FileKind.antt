@@ -1,16 +1,11 @@
 -- The kinds of file that only a desk reads.
 use Rattle.std.specs.Prelude.{ℕ, List, Result, Ok, Err, if◌then◌else◌}
 use Rattle.bus_signals.specs.declared.version.Version.TheVariants.{Two}
-use Rattle.text_scan.specs.declared.fault_at.FaultAt.{FaultAt}
-use Rattle.text_scan.specs.declared.fault_kind.FaultKind.TheVariants.{Word}
-use Rattle.text_scan.specs.Reader.{◌>>=◌}
-use Rattle.report_verifier.specs.Policy.{PolicyFields}
-use Rattle.report_verifier.specs.PolicyGrammar.{policy_of}
-use Rattle.report_verifier.specs.Verdict.{same_version}
+use Rattle.text_scan.specs.{declared.{fault_at.FaultAt.FaultAt, fault_kind.FaultKind.TheVariants.Word}, Reader.◌>>=◌}
+use Rattle.report_verifier.specs.{Policy.PolicyFields, PolicyGrammar.policy_of, Verdict.same_version}
 use Rattle.verifier_desk.specs.DeviceKey.{DeviceKey, devices_of}
 use Rattle.input_files.specs.declared.bad_file.BadFile.TheVariants as bad
-use Rattle.input_files.specs.Limit.{policy_limit}
-use Rattle.input_files.specs.Row.{FileKind}
+use Rattle.input_files.specs.{Limit.policy_limit, Row.FileKind}
 use Rattle.desk_cli.specs.StateFile.{NumberedEntries, numbered_entries_of}
 
 -- the longest file of keys, in bytes

@@ -6,14 +6,8 @@ use Rattle.outside_edge.specs.declared.shelf.Shelf as shelves
 use Rattle.desk_memory.specs.declared.memory.Memory as memory
 use Rattle.desk_memory.specs.Entry.{Entry, with_entries}
 use Rattle.verifier_desk.specs.DeviceKey.{name_fault}
-use Rattle.input_files.specs.declared.status.Status.{Status}
-use Rattle.input_files.specs.declared.status.Status.TheVariants.{Words}
-use Rattle.input_files.specs.Reading.{IsUnread, Reaches}
-use Rattle.input_files.specs.Row.{RowOf, Ends, read_file}
-use Rattle.desk_cli.specs.FileKind.{states_kind}
-use Rattle.desk_cli.specs.MemoryFiles.{IsMade, LacksMemory, Making, ToldMemories}
-use Rattle.desk_cli.specs.Noting.{NotesAll}
-use Rattle.desk_cli.specs.StateFile.{NumberedEntries}
+use Rattle.input_files.specs.{declared.status.Status.{Status, TheVariants.Words}, Reading.{IsUnread, Reaches}, Row.{RowOf, Ends, read_file}}
+use Rattle.desk_cli.specs.{FileKind.states_kind, MemoryFiles.{IsMade, LacksMemory, Making, ToldMemories}, Noting.NotesAll, StateFile.NumberedEntries}
 
 -- the names of the new memory and of its desk
 pub record FoundNames : Type 0 where

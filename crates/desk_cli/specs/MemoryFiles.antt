@@ -3,8 +3,7 @@ use Rattle.std.specs.Prelude.{◌≡◌, ◌⊎◌, ℕ, List, [], Option, Some,
 use Rattle.outside_edge.specs.Count.{Rose}
 use Rattle.desk_memory.specs.declared.memory.Memory as memory
 use Rattle.desk_memory.specs.Entry.{Entry}
-use Rattle.desk_database.specs.declared.memory_file_fault.MemoryFileFault.{MemoryFileFault}
-use Rattle.desk_database.specs.declared.memory_file_fault.MemoryFileFault.TheVariants.{OutOfMemory}
+use Rattle.desk_database.specs.{declared.memory_file_fault.MemoryFileFault.{MemoryFileFault, TheVariants.OutOfMemory}}
 use Rattle.verifier_desk.specs.Serving.{Keeps}
 use Rattle.input_files.specs.declared.status.Status.{Status}
 use Rattle.desk_cli.specs.Status.{status_of_unopened}

@@ -3,20 +3,9 @@ use Rattle.std.specs.Prelude.{◌≡◌, ◌≤◌, ◌⊎◌, ◌↔◌, ◌==�
 use Rattle.std.specs.Str.{bytes_eq}
 use Rattle.outside_edge.specs.declared.sink.Sink as sink
 use Rattle.desk_memory.specs.declared.memory.Memory as memory
-use Rattle.desk_memory.specs.declared.memory_fault.MemoryFault.{MemoryFault}
-use Rattle.desk_memory.specs.AnswerRead.{most_number}
-use Rattle.desk_memory.specs.Entry.{Entry, Home, home_of, last_in}
-use Rattle.desk_memory.specs.Moving.{with_departure, gone_to, is_gone_to, is_here, moved_lines}
-use Rattle.input_files.specs.declared.status.Status.{Status}
-use Rattle.input_files.specs.declared.status.Status.TheVariants.{BadMemory, Memory, Words}
-use Rattle.input_files.specs.declared.unfit.Unfit.{Unfit}
-use Rattle.input_files.specs.declared.unfit.Unfit.TheVariants.{Gone, LastMove, NoDevice, OwnDesk}
-use Rattle.desk_cli.specs.Founding.{is_name}
-use Rattle.desk_cli.specs.MemoryFiles.{ToldMemories, UsesIf}
-use Rattle.desk_cli.specs.Noting.{HasNoted}
-use Rattle.desk_cli.specs.States.{PutsText}
-use Rattle.desk_cli.specs.StateText.{states_text}
-use Rattle.desk_cli.specs.Status.{status_of_unkept}
+use Rattle.desk_memory.specs.{declared.memory_fault.MemoryFault.MemoryFault, AnswerRead.most_number, Entry.{Entry, Home, home_of, last_in}, Moving.{with_departure, gone_to, is_gone_to, is_here, moved_lines}}
+use Rattle.input_files.specs.{declared.{status.Status.{Status, TheVariants.{BadMemory, Memory, Words}}, unfit.Unfit.{Unfit, TheVariants.{Gone, LastMove, NoDevice, OwnDesk}}}}
+use Rattle.desk_cli.specs.{Founding.is_name, MemoryFiles.{ToldMemories, UsesIf}, Noting.HasNoted, States.PutsText, StateText.states_text, Status.status_of_unkept}
 
 -- the names of the memory, the device and the desk that it goes to
 pub record MoveNames : Type 0 where

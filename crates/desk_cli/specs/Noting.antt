@@ -1,11 +1,9 @@
 -- Entries that are noted in a memory, which then settles.
 use Rattle.std.specs.Prelude.{◌≡◌, ◌⊎◌, List, Option, Some, None, IfSome}
 use Rattle.desk_memory.specs.declared.memory.Memory as memory
-use Rattle.desk_memory.specs.declared.memory_fault.MemoryFault.{MemoryFault}
-use Rattle.desk_memory.specs.Entry.{Entry}
+use Rattle.desk_memory.specs.{declared.memory_fault.MemoryFault.MemoryFault, Entry.Entry}
 use Rattle.verifier_desk.specs.Serving.{HasFailed, Keeps}
-use Rattle.input_files.specs.declared.status.Status.{Status}
-use Rattle.input_files.specs.declared.status.Status.TheVariants.{Done}
+use Rattle.input_files.specs.{declared.status.Status.{Status, TheVariants.Done}}
 use Rattle.desk_cli.specs.Status.{status_of_unkept}
 
 -- the memory keeps all of these entries, or it failed; and whatever a crash leaves it left before,

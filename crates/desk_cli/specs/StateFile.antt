@@ -1,26 +1,10 @@
 -- The entries of a text that `states` printed, or its first fault.
 use Rattle.std.specs.Prelude.{ℕ, ◌==◌, ◌&&◌, Bool, true, List, [], ◌∷◌, ◌++◌, length, if◌then◌else◌, nat_le, not, Option, Some, None, Result, Ok, Err, codes}
 use Rattle.std.specs.Str.{bytes_eq}
-use Rattle.text_scan.specs.declared.fault_at.FaultAt.{FaultAt}
-use Rattle.text_scan.specs.declared.fault_kind.FaultKind.{FaultKind}
-use Rattle.text_scan.specs.declared.fault_kind.FaultKind.TheVariants.{Order, Range, Twice}
-use Rattle.text_scan.specs.Decimal.{decimal_of}
-use Rattle.text_scan.specs.Line.{text_lines}
-use Rattle.text_scan.specs.LineFold.{text_fold}
-use Rattle.text_scan.specs.Reader.{◌>>=◌}
-use Rattle.text_scan.specs.Word.{words_of, next_word, keyword_of, end_of, is_passed_over}
-use Rattle.text_scan.specs.WordValue.{hex_block_of, number_of, value_of}
-use Rattle.desk_memory.specs.declared.answer.Answer.{Answer}
-use Rattle.desk_memory.specs.declared.answer.Answer.TheVariants.{Requested}
-use Rattle.desk_memory.specs.declared.device_state.DeviceState.{DeviceState}
-use Rattle.desk_memory.specs.AnswerRead.{answer_of, most_number}
-use Rattle.desk_memory.specs.Entry.{Entry, Home, first_home, last_in, owner_in}
-use Rattle.desk_memory.specs.EntryPlace.{place_for}
-use Rattle.verifier_desk.specs.DeviceKey.{name_fault}
-use Rattle.verifier_desk.specs.DeviceReply.{LAST_COUNT}
-use Rattle.desk_cli.specs.declared.line_form.LineForm.{LineForm}
-use Rattle.desk_cli.specs.declared.line_form.LineForm.TheVariants.{VersionOne, Here, Gone}
-use Rattle.desk_cli.specs.StateText.{form_names}
+use Rattle.text_scan.specs.{declared.{fault_at.FaultAt.FaultAt, fault_kind.FaultKind.{FaultKind, TheVariants.{Order, Range, Twice}}}, Decimal.decimal_of, Line.text_lines, LineFold.text_fold, Reader.◌>>=◌, Word.{words_of, next_word, keyword_of, end_of, is_passed_over}, WordValue.{hex_block_of, number_of, value_of}}
+use Rattle.desk_memory.specs.{declared.{answer.Answer.{Answer, TheVariants.Requested}, device_state.DeviceState.DeviceState}, AnswerRead.{answer_of, most_number}, Entry.{Entry, Home, first_home, last_in, owner_in}, EntryPlace.place_for}
+use Rattle.verifier_desk.specs.{DeviceKey.name_fault, DeviceReply.LAST_COUNT}
+use Rattle.desk_cli.specs.{declared.line_form.LineForm.{LineForm, TheVariants.{VersionOne, Here, Gone}}, StateText.form_names}
 
 -- a decimal of at most so much, or `none`
 unfoldable pub number_in : ℕ → List ℕ → Result (Option ℕ) FaultKind

@@ -1,14 +1,11 @@
 -- The command `states`: the entries of a memory as text.
 use Rattle.std.specs.Prelude.{◌≡◌, ◌≤◌, ◌⊎◌, ◌↔◌, ℕ, List, [], ◌∷◌, Option, Some, None, IfSome}
-use Rattle.outside_edge.specs.Count.{Rose}
-use Rattle.outside_edge.specs.Sink.{Takes, TakesPrefix}
+use Rattle.outside_edge.specs.{Count.Rose, Sink.{Takes, TakesPrefix}}
 use Rattle.outside_edge.specs.declared.sink.Sink as sink
 use Rattle.desk_memory.specs.declared.memory.Memory as memory
 use Rattle.desk_memory.specs.Entry.{Entry}
-use Rattle.input_files.specs.declared.status.Status.{Status}
-use Rattle.input_files.specs.declared.status.Status.TheVariants.{Done, Words, WriteFault}
-use Rattle.desk_cli.specs.MemoryFiles.{ToldMemories, UsesIf}
-use Rattle.desk_cli.specs.StateText.{states_text}
+use Rattle.input_files.specs.{declared.status.Status.{Status, TheVariants.{Done, Words, WriteFault}}}
+use Rattle.desk_cli.specs.{MemoryFiles.{ToldMemories, UsesIf}, StateText.states_text}
 
 -- `states MEMORY`
 abbrev pub states_name_of : List (List ℕ) → Option (List ℕ)

@@ -5,8 +5,7 @@ use Rattle.desk_database.specs.declared.memory_file_fault.MemoryFileFault.{Memor
 use Rattle.desk_database.specs.declared.memory_file_fault.MemoryFileFault.TheVariants as opened
 use Rattle.source_server.specs.declared.served.Served.{Served}
 use Rattle.source_server.specs.declared.served.Served.TheVariants as served
-use Rattle.verifier_desk.specs.declared.answer_fault.AnswerFault.{AnswerFault}
-use Rattle.verifier_desk.specs.declared.answer_fault.AnswerFault.TheVariants.{Memory, Unkept}
+use Rattle.verifier_desk.specs.{declared.answer_fault.AnswerFault.{AnswerFault, TheVariants.{Memory, Unkept}}}
 use Rattle.input_files.specs.declared.status.Status.{Status}
 use Rattle.input_files.specs.declared.status.Status.TheVariants as status
 use Rattle.input_files.specs.declared.unfit.Unfit.TheVariants as unfit

@@ -8,18 +8,10 @@ use Rattle.sqlite_trees.specs.Tree.{Trees}
 use Rattle.sqlite_store.specs.FileStore as file_store
 use Rattle.sqlite_store.specs.FileStore.{recovers}
 use Rattle.sqlite_store.specs.Unopened.{StopsCreating, state_of}
-use Rattle.desk_memory.specs.Entry.{Entry}
-use Rattle.desk_memory.specs.SizedEntry.{are_sized}
-use Rattle.desk_database.specs.Table.{FindsEntries, IsMemoryOf}
-use Rattle.desk_database.specs.Held.{HoldsMemory, IsKept, IsSpared}
-use Rattle.desk_database.specs.Log.{stored_page}
-use Rattle.desk_database.specs.Opening.{IsCleanLeft, Leaves, WhyUnmade, WhyUnopened, faults_of, image_of}
-use Rattle.desk_database.specs.declared.left.Left.{Left}
+use Rattle.desk_memory.specs.{Entry.Entry, SizedEntry.are_sized}
+use Rattle.desk_database.specs.{Table.{FindsEntries, IsMemoryOf}, Held.{HoldsMemory, IsKept, IsSpared}, Log.stored_page, Opening.{IsCleanLeft, Leaves, WhyUnmade, WhyUnopened, faults_of, image_of}, declared.{left.Left.Left, memory_file_fault.MemoryFileFault.{MemoryFileFault, TheVariants.{Disk, Full, HotJournal, InUse, Missing, OutOfMemory, Place}}}}
 use Rattle.desk_database.specs.declared.left.Left.TheVariants as left
-use Rattle.desk_database.specs.declared.memory_file_fault.MemoryFileFault.{MemoryFileFault}
-use Rattle.desk_database.specs.declared.memory_file_fault.MemoryFileFault.TheVariants.{Disk, Full, HotJournal, InUse, Missing, OutOfMemory, Place}
-use Rattle.desk_cli.specs.declared.refusals.Refusals.{Refusals}
-use Rattle.desk_cli.specs.MemoryFiles.{Making, Opening, Request, ToldMemories}
+use Rattle.desk_cli.specs.{declared.refusals.Refusals.Refusals, MemoryFiles.{Making, Opening, Request, ToldMemories}}
 
 -- it was counted that a path was refused, with a fault of those that come before anything is read
 abbrev pub IsCounted : Refusals → Refusals → MemoryFileFault → Type 0

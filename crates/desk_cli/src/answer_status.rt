@@ -1,7 +1,6 @@
 ghost use Rattle.std.specs.Prelude.{◌≡◌};
 ghost use Rattle.std.specs.Result.{result_err};
-ghost use Rattle.desk_cli.specs.Noting.{status_of_noted};
-ghost use Rattle.desk_cli.specs.Status.{status_of_served, status_of_unkept, status_of_unopened};
+ghost use Rattle.desk_cli.specs.{Noting.status_of_noted, Status.{status_of_served, status_of_unkept, status_of_unopened}};
 
 use desk_database::MemoryFileFault;
 use desk_memory::MemoryFault;

@@ -1,12 +1,6 @@
 ghost use Rattle.std.specs.Prelude.{◌≡◌, IfSome, codes};
-ghost use Rattle.input_files.specs.Argument.{texts};
-ghost use Rattle.input_files.specs.declared.status.Status.TheVariants.{Words};
-ghost use Rattle.desk_cli.specs.Adopt.{IsAdoptAnswer, adopt_names_of};
-ghost use Rattle.desk_cli.specs.Desk.{IsDeskAnswer, desk_names_of};
-ghost use Rattle.desk_cli.specs.Founding.{IsFoundAnswer, IsRememberAnswer, found_names_of, remember_names_of};
-ghost use Rattle.desk_cli.specs.Move.{IsMoveAnswer, move_names_of};
-ghost use Rattle.desk_cli.specs.Run.{HasNoCommand, arguments_behind};
-ghost use Rattle.desk_cli.specs.States.{IsStatesAnswer, states_name_of};
+ghost use Rattle.input_files.specs.{Argument.texts, declared.status.Status.TheVariants.Words};
+ghost use Rattle.desk_cli.specs.{Adopt.{IsAdoptAnswer, adopt_names_of}, Desk.{IsDeskAnswer, desk_names_of}, Founding.{IsFoundAnswer, IsRememberAnswer, found_names_of, remember_names_of}, Move.{IsMoveAnswer, move_names_of}, Run.{HasNoCommand, arguments_behind}, States.{IsStatesAnswer, states_name_of}};
 
 use crate::adopting::run_adopt;
 use crate::desk::run_desk;

@@ -1,6 +1,5 @@
 ghost use Rattle.std.specs.Prelude.{◌≡◌, option_map};
-ghost use Rattle.text_scan.specs.Reader.{ReadsOn, ReadsWord, value_as};
-ghost use Rattle.text_scan.specs.Word.{words_of};
+ghost use Rattle.text_scan.specs.{Reader.{ReadsOn, ReadsWord, value_as}, Word.words_of};
 ghost use Rattle.desk_memory.specs.Entry.{home_fields};
 ghost use Rattle.desk_cli.specs.StateFile.{entry_of, home_said, last_of, last_with, moves_of, name_of, number_in, outstanding_of, state_of};
 

@@ -1,6 +1,5 @@
 ghost use Rattle.std.specs.Prelude.{◌≡◌, ◌++◌, ◌∷◌, []};
-ghost use Rattle.text_scan.specs.LineFold.{TakesLine};
-ghost use Rattle.text_scan.specs.Reader.{Reads};
+ghost use Rattle.text_scan.specs.{LineFold.TakesLine, Reader.Reads};
 ghost use Rattle.desk_cli.specs.StateFile.{states_of, with_line, with_new_entry};
 
 use crate::entry_fault::check_entry;

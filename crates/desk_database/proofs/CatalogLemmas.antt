@@ -23,9 +23,7 @@ use Rattle.sqlite_store.specs.Db.{rows_at}
 use Rattle.sqlite_store.specs.Listing.{file_trees, IsOurs}
 use Rattle.sqlite_store.specs.Opening.{IsEmptyFile}
 use Rattle.sqlite_store.specs.Unopened.{state_of, wanted_by, image, HasFileAs, HasSomeFile, Opens, IsCatalogOf}
-use Rattle.desk_database.specs.MemoryTables.{page_size, memory_schema}
-use Rattle.desk_database.specs.Held.{HoldsMemory, HoldsBegun, HoldsNothing, LacksObjects, MayBeMemory, IsKept, IsSpared}
-use Rattle.desk_database.specs.Opening.{Finds}
+use Rattle.desk_database.specs.{MemoryTables.{page_size, memory_schema}, Held.{HoldsMemory, HoldsBegun, HoldsNothing, LacksObjects, MayBeMemory, IsKept, IsSpared}, Opening.Finds}
 use Rattle.desk_database.proofs.HeldLemmas.{memory_lists, lists_nothing, sound_is_not_blank, as_before, begun_before, opens_spare}
 
 begun_as : (a b : Image) (pages : PageMap) → Recovers page_size a pages → Recovers page_size b pages

@@ -9,11 +9,8 @@ use Rattle.sqlite_wal.specs.Outcome.{HasCause}
 use Rattle.sqlite_wal.specs.Recovery.{Image}
 use Rattle.sqlite_wal.specs.declared.error.Error.{Error}
 use Rattle.sqlite_wal.specs.declared.error.Error.TheVariants as wal
-use Rattle.desk_database.specs.Fault.{fault_of_probe, fault_of_store}
-use Rattle.desk_database.specs.Log.{CanReplay, stored_page}
+use Rattle.desk_database.specs.{Fault.{fault_of_probe, fault_of_store}, Log.{CanReplay, stored_page}, Opening.WhyUnread, declared.memory_file_fault.MemoryFileFault.MemoryFileFault}
 use Rattle.desk_database.specs.Opening as opening
-use Rattle.desk_database.specs.Opening.{WhyUnread}
-use Rattle.desk_database.specs.declared.memory_file_fault.MemoryFileFault.{MemoryFileFault}
 use Rattle.desk_database.specs.declared.memory_file_fault.MemoryFileFault.TheVariants as fault
 
 pub wanted_more : (a b : ℕ) (Limit P Q : Type 0) (e : OpenError) → (Q → P)

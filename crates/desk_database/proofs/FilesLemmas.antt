@@ -10,8 +10,7 @@ use Rattle.sqlite_pool.specs.declared.pool.Pool.{Pool}
 use Rattle.sqlite_pool.specs.Pool.{state, files}
 use Rattle.sqlite_store.specs.declared.store.open.Unopened.{Unopened}
 use Rattle.sqlite_store.specs.Unopened.{state_of, files_of, image}
-use Rattle.desk_database.specs.Held.{IsKept, IsSpared}
-use Rattle.desk_database.specs.Opening.{OnlyLooks, image_of, faults_of}
+use Rattle.desk_database.specs.{Held.{IsKept, IsSpared}, Opening.{OnlyLooks, image_of, faults_of}}
 
 pool_files : {D : Type 0} {g : Ghosts D} (it : Pool D g)
     → ((state it).faults ≡ g.faults (files it).0 + g.faults (files it).1)

@@ -8,11 +8,8 @@ use Rattle.sqlite_trees.specs.declared.store.Shape.TheVariants.{Table}
 use Rattle.sqlite_trees.specs.Tree.{Trees}
 use Rattle.sqlite_store.specs.Db.{rows_at}
 use Rattle.sqlite_store.specs.Listing.{file_trees}
-use Rattle.desk_database.specs.Table.{IsUnfounded}
-use Rattle.desk_database.specs.Held.{CanBeFounded, HasEntries, HoldsMemory, HoldsUnfounded}
-use Rattle.desk_database.specs.MemoryTables.{page_size, memory_schema}
-use Rattle.desk_database.proofs.HeldLemmas.{memory_is_something, memory_lists}
-use Rattle.desk_database.proofs.TableRead.{is_unfounded, not_both}
+use Rattle.desk_database.specs.{Table.IsUnfounded, Held.{CanBeFounded, HasEntries, HoldsMemory, HoldsUnfounded}, MemoryTables.{page_size, memory_schema}}
+use Rattle.desk_database.proofs.{HeldLemmas.{memory_is_something, memory_lists}, TableRead.{is_unfounded, not_both}}
 
 pub one_memory : (image : Image) (db other : Trees) → HoldsMemory image db
     → HoldsMemory image other → db ≡ other

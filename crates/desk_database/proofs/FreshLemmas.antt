@@ -4,9 +4,7 @@ use Rattle.sqlite_disk.specs.declared.Disk.{Ghosts}
 use Rattle.sqlite_disk.specs.Events.{Event, replay, settled}
 use Rattle.sqlite_disk.specs.History.{MayLeave}
 use Rattle.sqlite_wal.specs.Recovery.{Image}
-use Rattle.desk_database.specs.Held.{IsKept, IsSpared}
-use Rattle.desk_database.specs.Opening.{FindsRows, Leaves}
-use Rattle.desk_database.specs.declared.left.Left.{Left}
+use Rattle.desk_database.specs.{Held.{IsKept, IsSpared}, Opening.{FindsRows, Leaves}, declared.left.Left.Left}
 use Rattle.desk_database.specs.declared.left.Left.TheVariants as left
 use Rattle.desk_database.proofs.FilesLemmas.{kept_as, spared_as}
 

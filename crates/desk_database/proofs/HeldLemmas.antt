@@ -20,9 +20,7 @@ use Rattle.sqlite_store.specs.Opening.{IsEmptyFile}
 use Rattle.sqlite_store.specs.Unopened.{state_of, wanted_by, image, IsUnstarted, IsAsBefore, IsOnTheWay, Creates}
 use Rattle.sqlite_store.proofs.BuildLemmas.{new_is_empty}
 use Rattle.sqlite_store.proofs.ListingLemmas.{past_version, named_tree}
-use Rattle.desk_database.specs.MemoryTables.{page_size, memory_schema}
-use Rattle.desk_database.specs.Held.{HoldsMemory, HoldsBegun, HoldsNothing, HoldsEmptyTables, IsKept, IsSpared, MayBeMemory}
-use Rattle.desk_database.specs.Log.{CanReplay}
+use Rattle.desk_database.specs.{MemoryTables.{page_size, memory_schema}, Held.{HoldsMemory, HoldsBegun, HoldsNothing, HoldsEmptyTables, IsKept, IsSpared, MayBeMemory}, Log.CanReplay}
 
 -- a memory lists its table
 pub memory_lists : (image : Image) (db : Trees) (held : HoldsMemory image db)

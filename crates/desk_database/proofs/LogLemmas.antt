@@ -7,9 +7,7 @@ use Rattle.sqlite_wal.specs.Format.{content, page_number}
 use Rattle.sqlite_wal.specs.Recovery.{Image, Replays, file_page, frame, frame_at, page_after}
 use Rattle.sqlite_wal.proofs.PartLemmas.{frames_len-le, slice_index-part}
 use Rattle.sqlite_wal.proofs.RecoveryLemmas.{committed_within, replays_once}
-use Rattle.desk_database.specs.declared.log_fit.LogFit.{LogFit}
-use Rattle.desk_database.specs.declared.log_fit.LogFit.TheVariants.{Begun, Fits, Other}
-use Rattle.desk_database.specs.Log.{FitsAs, FitsLog, FitsMaking, HasFrames, IsLogFit, IsOfFile, IsOfMaking, IsVersionFit, IsWholeFirst, file_version, first_page_by, stored_page, version_after}
+use Rattle.desk_database.specs.{declared.log_fit.LogFit.{LogFit, TheVariants.{Begun, Fits, Other}}, Log.{FitsAs, FitsLog, FitsMaking, HasFrames, IsLogFit, IsOfFile, IsOfMaking, IsVersionFit, IsWholeFirst, file_version, first_page_by, stored_page, version_after}}
 
 u32_same : (f g : List ℕ) (a b : ℕ)
     → ((i : ℕ) → i < 4 → slice_index f (a + i) ≡ slice_index g (b + i)) → u32_at f a ≡ u32_at g b

@@ -6,8 +6,7 @@ use Rattle.sqlite_trees.specs.Tree.{Trees, from_key, sought}
 use Rattle.sqlite_trees.specs.declared.store.Direction.TheVariants.{Forward}
 use Rattle.sqlite_trees.specs.View.{View, Advances, IsQuiet, with_cursor}
 use Rattle.desk_memory.specs.Entry.{Entry}
-use Rattle.desk_database.specs.TableOpening.{Reads}
-use Rattle.desk_database.specs.Rows.{row_of, rows_from}
+use Rattle.desk_database.specs.{TableOpening.Reads, Rows.{row_of, rows_from}}
 
 from_no_key : (o : Order) (es : List Row) → from_key o [] es ≡ es
 from_no_key o [] = refl

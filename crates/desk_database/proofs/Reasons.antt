@@ -4,10 +4,7 @@ use Rattle.sqlite_value.specs.Order.{Row}
 use Rattle.sqlite_trees.specs.Tree.{Trees}
 use Rattle.sqlite_trees.specs.View.{View}
 use Rattle.desk_memory.specs.Entry.{Entry}
-use Rattle.desk_database.specs.declared.open_fault.OpenFault.{OpenFault}
-use Rattle.desk_database.specs.declared.open_fault.OpenFault.TheVariants.{Memory, Failed, Foreign, Unfounded, Founded}
-use Rattle.desk_database.specs.TableOpening.{HasNoDesk, HasNoEntries, HasReason, IsForeign}
-use Rattle.desk_database.specs.Rows.{rows_from}
+use Rattle.desk_database.specs.{declared.open_fault.OpenFault.{OpenFault, TheVariants.{Memory, Failed, Foreign, Unfounded, Founded}}, TableOpening.{HasNoDesk, HasNoEntries, HasReason, IsForeign}, Rows.rows_from}
 
 pub reason_on : (a b : View) (A B F G U V X Y : Type 0) (fault : OpenFault)
     → (IsTrue a.is_open → IsTrue b.is_open) → (B → A) → (G → F) → (V → U) → (Y → X)

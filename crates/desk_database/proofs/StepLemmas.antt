@@ -12,18 +12,8 @@ use Rattle.sqlite_store.specs.declared.store.FileStore.{FileStore}
 use Rattle.sqlite_store.specs.declared.store.open.Unopened.{Unopened}
 use Rattle.sqlite_store.specs.FileStore.{view}
 use Rattle.sqlite_store.specs.Unopened.{files_of, image, state_of, StopsCreating}
-use Rattle.desk_database.specs.Begun.{GivesStore, IsBegun, IsStoreOver, Refuses}
-use Rattle.desk_database.specs.Held.{HoldsNothing, IsKept, IsSpared, LacksObjects, MayBeMemory}
-use Rattle.desk_database.specs.Opening.{FailsToOpen, Finds, faults_of, image_of}
-use Rattle.desk_database.specs.Fault.{fault_of_store}
-use Rattle.desk_database.specs.Log.{CanReplay}
-use Rattle.desk_database.specs.declared.memory_file_fault.MemoryFileFault.{MemoryFileFault}
-use Rattle.desk_database.specs.declared.memory_file_fault.MemoryFileFault.TheVariants.{Foreign}
-use Rattle.desk_database.specs.MemoryTables.{page_size}
-use Rattle.desk_database.proofs.CatalogLemmas.{can_be_made, finds_through, kept_through, lacks_objects}
-use Rattle.desk_database.proofs.FailLemmas.{fails_behind, from_store, wanted_more}
-use Rattle.desk_database.proofs.FilesLemmas.{counts_on, now_clean, old_clean, same_image, spared_by_files}
-use Rattle.desk_database.proofs.HeldLemmas.{opens_spare, spared_is_kept}
+use Rattle.desk_database.specs.{Begun.{GivesStore, IsBegun, IsStoreOver, Refuses}, Held.{HoldsNothing, IsKept, IsSpared, LacksObjects, MayBeMemory}, Opening.{FailsToOpen, Finds, faults_of, image_of}, Fault.fault_of_store, Log.CanReplay, declared.memory_file_fault.MemoryFileFault.{MemoryFileFault, TheVariants.Foreign}, MemoryTables.page_size}
+use Rattle.desk_database.proofs.{CatalogLemmas.{can_be_made, finds_through, kept_through, lacks_objects}, FailLemmas.{fails_behind, from_store, wanted_more}, FilesLemmas.{counts_on, now_clean, old_clean, same_image, spared_by_files}, HeldLemmas.{opens_spare, spared_is_kept}}
 
 module _ {D : Type 0} {g : Ghosts D} where
   pub refused_as : (K : Type 0 → Image → Image → Type 0) (P Q : Type 0) (files : Unopened D g)

@@ -9,16 +9,8 @@ use Rattle.sqlite_trees.specs.View.{View}
 use Rattle.sqlite_store.specs.declared.store.FileStore.{FileStore}
 use Rattle.sqlite_store.specs.FileStore.{view, schema_of}
 use Rattle.sqlite_store.proofs.ListingLemmas.{named_shape}
-use Rattle.desk_database.specs.declared.open_fault.OpenFault.{OpenFault}
+use Rattle.desk_database.specs.{declared.{open_fault.OpenFault.OpenFault, memory_file_fault.MemoryFileFault.MemoryFileFault}, TableOpening.{HasReason, IsForeign}, Table.{HasSameRows, HasTables, IsFounded, IsUnfounded}, MemoryTables.memory_schema, Fault.fault_of_table, Held.{CanBeFounded, HasEntries, HoldsUnfounded, MayBeMemory}, Log.CanReplay, Opening.{Finds, FindsRows, FailsToOpen}}
 use Rattle.desk_database.specs.declared.open_fault.OpenFault.TheVariants as table
-use Rattle.desk_database.specs.TableOpening.{HasReason, IsForeign}
-use Rattle.desk_database.specs.Table.{HasSameRows, HasTables, IsFounded, IsUnfounded}
-use Rattle.desk_database.specs.MemoryTables.{memory_schema}
-use Rattle.desk_database.specs.Fault.{fault_of_table}
-use Rattle.desk_database.specs.Held.{CanBeFounded, HasEntries, HoldsUnfounded, MayBeMemory}
-use Rattle.desk_database.specs.Log.{CanReplay}
-use Rattle.desk_database.specs.Opening.{Finds, FindsRows, FailsToOpen}
-use Rattle.desk_database.specs.declared.memory_file_fault.MemoryFileFault.{MemoryFileFault}
 use Rattle.desk_database.specs.declared.memory_file_fault.MemoryFileFault.TheVariants as fault
 
 pub has_tables : {D : Type 0} {g : Ghosts D} (store : FileStore D g)

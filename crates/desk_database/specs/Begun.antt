@@ -11,10 +11,7 @@ use Rattle.sqlite_store.specs.declared.store.open.Unopened.{Unopened}
 use Rattle.sqlite_store.specs.FileStore.{view, state, schema_of, is_shielded, IsReady}
 use Rattle.sqlite_store.specs.Opening.{FailsToOpen}
 use Rattle.sqlite_store.specs.Unopened.{state_of, wanted_by, image, AreUsable, IsCatalogOf, Opens, StopsCreating}
-use Rattle.desk_database.specs.Held.{IsSpared, MayBeMemory}
-use Rattle.desk_database.specs.Log.{CanReplay}
-use Rattle.desk_database.specs.Opening.{Finds, faults_of, image_of}
-use Rattle.desk_database.specs.MemoryTables.{memory_schema}
+use Rattle.desk_database.specs.{Held.{IsSpared, MayBeMemory}, Log.CanReplay, Opening.{Finds, faults_of, image_of}, MemoryTables.memory_schema}
 
 module _ {D : Type 0} {g : Ghosts D} where
   -- no fault is forgotten, and this is what each outcome of a crash holds

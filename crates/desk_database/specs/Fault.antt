@@ -9,10 +9,8 @@ use Rattle.sqlite_wal.specs.declared.error.Error as log
 use Rattle.sqlite_wal.specs.declared.error.Error.TheVariants as wal
 use Rattle.sqlite_store.specs.declared.error.OpenError.{OpenError}
 use Rattle.sqlite_store.specs.declared.error.OpenError.TheVariants as store
-use Rattle.desk_database.specs.declared.open_fault.OpenFault.{OpenFault}
+use Rattle.desk_database.specs.{declared.{open_fault.OpenFault.OpenFault, memory_file_fault.MemoryFileFault.{MemoryFileFault, TheVariants.{Place, Missing, InUse, HotJournal, Foreign, Disk, Full, OutOfMemory, Unfounded, Founded, OtherLog}}}}
 use Rattle.desk_database.specs.declared.open_fault.OpenFault.TheVariants as table
-use Rattle.desk_database.specs.declared.memory_file_fault.MemoryFileFault.{MemoryFileFault}
-use Rattle.desk_database.specs.declared.memory_file_fault.MemoryFileFault.TheVariants.{Place, Missing, InUse, HotJournal, Foreign, Disk, Full, OutOfMemory, Unfounded, Founded, OtherLog}
 
 abbrev pub fault_of_probe : log.Error → MemoryFileFault
 fault_of_probe (wal.Io e) = Disk

@@ -10,9 +10,7 @@ use Rattle.sqlite_trees.specs.declared.store.Shape.TheVariants.{Table}
 use Rattle.sqlite_store.specs.Db.{rows_at}
 use Rattle.sqlite_store.specs.Listing.{IsOurs, file_trees}
 use Rattle.sqlite_store.specs.Opening.{IsEmptyFile}
-use Rattle.desk_database.specs.Table.{IsFounded, IsUnfounded}
-use Rattle.desk_database.specs.Log.{CanReplay}
-use Rattle.desk_database.specs.MemoryTables.{page_size, memory_schema}
+use Rattle.desk_database.specs.{Table.{IsFounded, IsUnfounded}, Log.CanReplay, MemoryTables.{page_size, memory_schema}}
 
 -- the files recover to a sound database whose objects are the two tables, with these trees
 pub record HoldsMemory (image : Image) (db : Trees) : Type 0 where

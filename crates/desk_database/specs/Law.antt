@@ -1,7 +1,6 @@
 -- What the table says of the entries.
 use Rattle.std.specs.Prelude.{◌≡◌, List, IsTrue}
-use Rattle.desk_memory.specs.Entry.{Entry}
-use Rattle.desk_memory.specs.SizedEntry.{are_sized}
+use Rattle.desk_memory.specs.{Entry.Entry, SizedEntry.are_sized}
 use Rattle.desk_database.specs.Rows.{rows_from}
 
 -- no two lists of entries of the code have the same rows

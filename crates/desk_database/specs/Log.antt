@@ -4,12 +4,7 @@ use Rattle.sqlite_pool.specs.Header.{user_version}
 use Rattle.sqlite_pool.specs.Stored.{sum_bytes}
 use Rattle.sqlite_wal.specs.Format.{content, page_number}
 use Rattle.sqlite_wal.specs.Recovery.{Image, Replays, file_page, frame, page_after}
-use Rattle.desk_database.specs.Version.{next_version}
-use Rattle.desk_database.specs.MemoryTables.{page_size}
-use Rattle.desk_database.specs.declared.first_page.FirstPage.{FirstPage}
-use Rattle.desk_database.specs.declared.first_page.FirstPage.TheVariants.{Short, Torn, Whole}
-use Rattle.desk_database.specs.declared.log_fit.LogFit.{LogFit}
-use Rattle.desk_database.specs.declared.log_fit.LogFit.TheVariants.{Begun, Fits, Other}
+use Rattle.desk_database.specs.{Version.next_version, MemoryTables.page_size, declared.{first_page.FirstPage.{FirstPage, TheVariants.{Short, Torn, Whole}}, log_fit.LogFit.{LogFit, TheVariants.{Begun, Fits, Other}}}}
 
 -- the bytes of a page as it is stored
 abbrev pub stored_page : ℕ

@@ -4,9 +4,7 @@ use Rattle.std.specs.Prelude.{ℕ, ◌+◌, pos, List, [], ◌∷◌, Option, So
 use Rattle.sqlite_value.specs.declared.value.Value.{Value}
 use Rattle.sqlite_value.specs.declared.value.Value.TheVariants.{Null, Int, Text, Blob}
 use Rattle.sqlite_value.specs.Order.{Row}
-use Rattle.desk_memory.specs.declared.answer.Answer.{Answer}
-use Rattle.desk_memory.specs.AnswerText.{answer_text}
-use Rattle.desk_memory.specs.Entry.{Entry}
+use Rattle.desk_memory.specs.{declared.answer.Answer.Answer, AnswerText.answer_text, Entry.Entry}
 
 abbrev pub number_value : Option ℕ → Value
 number_value None = Null

@@ -5,12 +5,8 @@ use Rattle.sqlite_trees.specs.Tree.{Trees}
 use Rattle.sqlite_trees.specs.View.{IsClean, View, doubt}
 use Rattle.sqlite_trees.specs.declared.error.StoreError.{StoreError}
 use Rattle.sqlite_trees.specs.declared.error.StoreError.TheVariants.{OutOfMemory, Unstorable}
-use Rattle.desk_memory.specs.Entry.{Entry}
-use Rattle.desk_memory.specs.SizedEntry.{are_sized}
-use Rattle.desk_database.specs.declared.open_fault.OpenFault.{OpenFault}
-use Rattle.desk_database.specs.declared.open_fault.OpenFault.TheVariants.{Memory, Failed, Foreign, Unfounded, Founded}
-use Rattle.desk_database.specs.Rows.{desk_rows, rows_from}
-use Rattle.desk_database.specs.Table.{HasSameRows, IsFounded, IsUnfounded}
+use Rattle.desk_memory.specs.{Entry.Entry, SizedEntry.are_sized}
+use Rattle.desk_database.specs.{declared.open_fault.OpenFault.{OpenFault, TheVariants.{Memory, Failed, Foreign, Unfounded, Founded}}, Rows.{desk_rows, rows_from}, Table.{HasSameRows, IsFounded, IsUnfounded}}
 
 -- nothing but cursors has moved
 abbrev pub OnlyReads : View → View → Type 0

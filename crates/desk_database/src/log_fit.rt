@@ -7,8 +7,7 @@ ghost use Rattle.sqlite_wal.specs.Outcome.{HasCause};
 ghost use Rattle.sqlite_wal.specs.PageSize.{bytes_of};
 ghost use Rattle.sqlite_wal.specs.Reads.{AreClean, IsClean, OnlyReads};
 ghost use Rattle.sqlite_wal.specs.Recovery.{frame_at, page_after};
-ghost use Rattle.desk_database.specs.Log.{CanReplay, HasFrames, IsLogFit, IsVersionFit, first_page_by, stored_page};
-ghost use Rattle.desk_database.specs.Opening.{OnlyLooks, faults_of, image_of};
+ghost use Rattle.desk_database.specs.{Log.{CanReplay, HasFrames, IsLogFit, IsVersionFit, first_page_by, stored_page}, Opening.{OnlyLooks, faults_of, image_of}};
 
 use crate::first_page::{FirstPage, PAGE, VERSION_AT, read_first_page};
 use sqlite_disk::{Disk, Files};

@@ -5,8 +5,7 @@ use sqlite_disk::{Disk, Files};
 pub trait MemoryPlaces<D: Disk> {
     ghost use Rattle.std.specs.Prelude.{ℕ, List, IfErr, IfOk, IsTrue};
     ghost use Rattle.sqlite_wal.specs.Recovery.{Image};
-    ghost use Rattle.desk_database.specs.Fault.{IsOfPath};
-    ghost use Rattle.desk_database.specs.Opening.{AreFresh};
+    ghost use Rattle.desk_database.specs.{Fault.IsOfPath, Opening.AreFresh};
 
     /// What the log and the database of a name hold.
     ghost image: { List ℕ → Image };

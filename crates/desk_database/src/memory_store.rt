@@ -6,11 +6,7 @@ ghost use Rattle.sqlite_pool.specs.Stored.{used_size};
 ghost use Rattle.sqlite_pool.specs.Opening.{IsBlankFile};
 ghost use Rattle.sqlite_store.specs.FileStore.{view};
 ghost use Rattle.sqlite_store.specs.Unopened.{state_of, files_of, wanted_by, image, AreUsable};
-ghost use Rattle.desk_database.specs.Begun.{GivesStore, IsStoreOver, LacksTables, Refuses};
-ghost use Rattle.desk_database.specs.Held.{HoldsNothing, IsKept, IsSpared, MayBeMemory};
-ghost use Rattle.desk_database.specs.Log.{CanReplay, FitsLog, FitsMaking, IsLogFit, stored_page};
-ghost use Rattle.desk_database.specs.Opening.{FailsToOpen, IsRefused, OnlyLooks, WhyUnmade, WhyUnopened, WhyUnread, faults_of, image_of};
-ghost use Rattle.desk_database.specs.MemoryTables.{page_size, memory_schema};
+ghost use Rattle.desk_database.specs.{Begun.{GivesStore, IsStoreOver, LacksTables, Refuses}, Held.{HoldsNothing, IsKept, IsSpared, MayBeMemory}, Log.{CanReplay, FitsLog, FitsMaking, IsLogFit, stored_page}, Opening.{FailsToOpen, IsRefused, OnlyLooks, WhyUnmade, WhyUnopened, WhyUnread, faults_of, image_of}, MemoryTables.{page_size, memory_schema}};
 
 use crate::layer_fault::{probe_fault, store_fault};
 use crate::left::Left;

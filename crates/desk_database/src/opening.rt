@@ -2,9 +2,7 @@ ghost use Rattle.std.specs.Prelude.{◌≡◌, [], None, IsTrue, IfErr, IfOk, If
 ghost use Rattle.sqlite_trees.specs.Tree.{Trees};
 ghost use Rattle.sqlite_trees.specs.View.{IsClean};
 ghost use Rattle.sqlite_store.specs.FileStore.{log_frames, recovers, view};
-ghost use Rattle.desk_database.specs.Fault.{IsOfPath};
-ghost use Rattle.desk_database.specs.Held.{IsKept, IsSpared};
-ghost use Rattle.desk_database.specs.Opening.{FailsAs, IsCleanLeft, IsMadeOver, IsOpenOver, IsRefused, Leaves, WhyUnmade, WhyUnopened, image_of};
+ghost use Rattle.desk_database.specs.{Fault.IsOfPath, Held.{IsKept, IsSpared}, Opening.{FailsAs, IsCleanLeft, IsMadeOver, IsOpenOver, IsRefused, Leaves, WhyUnmade, WhyUnopened, image_of}};
 
 use crate::layer_fault::table_fault;
 use crate::left::Left;

@@ -5,8 +5,7 @@ use Rattle.std.proofs.lemmas.Option.{same_Some}
 use Rattle.std.proofs.lemmas.Bool.{and_parts, cases_Bool}
 use Rattle.std.proofs.lemmas.Slice.Eq.{bytes_eq-Decides}
 use Rattle.std.specs.Str.{bytes_eq}
-use Rattle.desk_memory.specs.Entry.{Entry, is_replaced, last_in}
-use Rattle.desk_memory.specs.Law.{IsLastNoted, IsOwnerKept, IsOwnerNoted}
+use Rattle.desk_memory.specs.{Entry.{Entry, is_replaced, last_in}, Law.{IsLastNoted, IsOwnerKept, IsOwnerNoted}}
 
 -- the last of more entries is that of the later ones, or the first
 pub last_of_more : (first : Entry) (later : List Entry) (name : List ℕ) (last : Entry)

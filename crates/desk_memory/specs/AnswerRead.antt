@@ -1,15 +1,9 @@
 -- An answer that is read from words.
 use Rattle.std.specs.Prelude.{ℕ, List, Result, Ok, Err, codes, if◌then◌else◌}
 use Rattle.std.specs.Str.{bytes_eq}
-use Rattle.text_scan.specs.declared.fault_kind.FaultKind.{FaultKind}
-use Rattle.text_scan.specs.declared.fault_kind.FaultKind.TheVariants.{Word}
-use Rattle.text_scan.specs.FaultName.{fault_names}
-use Rattle.text_scan.specs.Reader.{◌>>=◌}
-use Rattle.text_scan.specs.Word.{next_word}
-use Rattle.text_scan.specs.WordValue.{number_of, value_of}
+use Rattle.text_scan.specs.{declared.fault_kind.FaultKind.{FaultKind, TheVariants.Word}, FaultName.fault_names, Reader.◌>>=◌, Word.next_word, WordValue.{number_of, value_of}}
 use Rattle.report_verifier.specs.VerdictName.{verdict_names}
-use Rattle.desk_memory.specs.declared.answer.Answer.{Answer}
-use Rattle.desk_memory.specs.declared.answer.Answer.TheVariants.{Stale, Bad, Spent, Requested, Judged}
+use Rattle.desk_memory.specs.{declared.answer.Answer.{Answer, TheVariants.{Stale, Bad, Spent, Requested, Judged}}}
 
 -- the greatest counter of a request
 abbrev pub most_number : ℕ

@@ -3,8 +3,7 @@ use Rattle.std.specs.Prelude.{ℕ, List, [], ◌∷◌, codes}
 use Rattle.std.specs.Fmt.{decimal}
 use Rattle.std.specs.List.{join_with_byte}
 use Rattle.report_verifier.specs.VerdictName.{verdict_name}
-use Rattle.desk_memory.specs.declared.answer.Answer.{Answer}
-use Rattle.desk_memory.specs.declared.answer.Answer.TheVariants.{Stale, Bad, Spent, Requested, Judged}
+use Rattle.desk_memory.specs.{declared.answer.Answer.{Answer, TheVariants.{Stale, Bad, Spent, Requested, Judged}}}
 use Rattle.text_scan.specs.FaultName.{fault_name}
 
 abbrev pub answer_words : Answer → List (List ℕ)

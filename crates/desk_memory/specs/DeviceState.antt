@@ -2,9 +2,7 @@
 use Rattle.std.specs.Prelude.{ℕ, ◌==◌, Bool, if◌then◌else◌, nat_lt, Option, Some, None, option_map, unwrap_or}
 use Rattle.std.specs.Option.{is_none}
 use Rattle.report_verifier.specs.declared.verdict.Verdict.TheVariants.{Accept}
-use Rattle.desk_memory.specs.declared.answer.Answer.{Answer}
-use Rattle.desk_memory.specs.declared.answer.Answer.TheVariants.{Stale, Requested, Judged}
-use Rattle.desk_memory.specs.declared.device_state.DeviceState.{DeviceState}
+use Rattle.desk_memory.specs.{declared.{answer.Answer.{Answer, TheVariants.{Stale, Requested, Judged}}, device_state.DeviceState.DeviceState}}
 
 -- nothing was asked
 abbrev pub new_device : DeviceState

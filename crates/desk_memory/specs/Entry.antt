@@ -3,9 +3,8 @@
 use Rattle.std.specs.Prelude.{ℕ, ◌&&◌, Bool, List, [], ◌∷◌, if◌then◌else◌, not, Option, Some, None, option_map, unwrap_or}
 use Rattle.std.specs.Option.{is_some}
 use Rattle.std.specs.Str.{bytes_eq}
-use Rattle.desk_memory.specs.declared.device_state.DeviceState.{DeviceState}
+use Rattle.desk_memory.specs.{declared.device_state.DeviceState.DeviceState, DeviceState.{new_device, under_new_key}}
 use Rattle.desk_memory.specs.declared.home.Home as code
-use Rattle.desk_memory.specs.DeviceState.{new_device, under_new_key}
 
 -- how often a device has moved from desk to desk, and the desk that it is gone to; without one it
 -- is here

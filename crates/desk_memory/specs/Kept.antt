@@ -1,9 +1,7 @@
 -- What a memory keeps through a crash.
 use Rattle.std.specs.Prelude.{◌≡◌, ◌≤◌, ◌⊎◌, ℕ, List, Result, IfErr}
 use Rattle.outside_edge.specs.Count.{Rose}
-use Rattle.desk_memory.specs.declared.memory_fault.MemoryFault.{MemoryFault}
-use Rattle.desk_memory.specs.declared.memory_fault.MemoryFault.TheVariants.{Memory}
-use Rattle.desk_memory.specs.Entry.{Entry}
+use Rattle.desk_memory.specs.{declared.memory_fault.MemoryFault.{MemoryFault, TheVariants.Memory}, Entry.Entry}
 
 -- a call that fails has counted a fault, or was refused memory where it takes any
 pub record CountsOrLacks {M V : Type 0} (faults : M → ℕ) (lacks : Type 0) (old new : M)

@@ -1,9 +1,7 @@
 -- Entries as the code can have them: marks of 16 bytes, numbers of 32 bits.
 use Rattle.std.specs.Prelude.{ℕ, ◌^◌, ◌==◌, ◌&&◌, Bool, true, List, length, nat_lt, Option, Some, None}
 use Rattle.std.specs.List.{list_all}
-use Rattle.desk_memory.specs.declared.answer.Answer.{Answer}
-use Rattle.desk_memory.specs.declared.answer.Answer.TheVariants.{Requested}
-use Rattle.desk_memory.specs.Entry.{Entry}
+use Rattle.desk_memory.specs.{declared.answer.Answer.{Answer, TheVariants.Requested}, Entry.Entry}
 
 abbrev pub is_short : ℕ → Bool
 is_short number = nat_lt number (2 ^ 32)

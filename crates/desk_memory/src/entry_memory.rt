@@ -5,8 +5,7 @@ use crate::memory_fault::MemoryFault;
 /// A memory of a desk, that tells its entries, and takes them as they are.
 pub trait EntryMemory: Memory {
     ghost use Rattle.std.specs.Prelude.{◌≡◌, ℕ, List, OnOk};
-    ghost use Rattle.desk_memory.specs.Entry.{Entry as EntryFields, with_entry};
-    ghost use Rattle.desk_memory.specs.Kept.{CountsOrLacks};
+    ghost use Rattle.desk_memory.specs.{Entry.{Entry as EntryFields, with_entry}, Kept.CountsOrLacks};
 
     /// The desk that it belongs to.
     ghost desk_of: { Self → List ℕ };

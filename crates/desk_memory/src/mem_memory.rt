@@ -1,9 +1,6 @@
 ghost use Rattle.std.specs.Prelude.{◌≡◌, ◌↔◌, [], Contains, Err, IfOk, None, OnErr, OnOk, Some};
 ghost use Rattle.sha2.specs.Sha256.{sha256};
-ghost use Rattle.desk_memory.specs.Entry.{with_entry, with_note};
-ghost use Rattle.desk_memory.specs.Kept.{CountsOrLacks};
-ghost use Rattle.desk_memory.specs.KeyMark.{key_mark};
-ghost use Rattle.desk_memory.specs.declared.memory_fault.MemoryFault.TheVariants.{Failed};
+ghost use Rattle.desk_memory.specs.{Entry.{with_entry, with_note}, Kept.CountsOrLacks, KeyMark.key_mark, declared.memory_fault.MemoryFault.TheVariants.Failed};
 
 use crate::device_state::DeviceState;
 use crate::entry::Entry;

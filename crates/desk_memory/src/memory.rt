@@ -1,8 +1,6 @@
 ghost use Rattle.std.specs.Prelude.{ℕ, List, OnOk};
 ghost use Rattle.sha2.specs.Sha256.{sha256};
-ghost use Rattle.desk_memory.specs.Entry.{Entry, with_note};
-ghost use Rattle.desk_memory.specs.Kept.{CountsOrLacks, IsKept, LeavesOr};
-ghost use Rattle.desk_memory.specs.KeyMark.{key_mark};
+ghost use Rattle.desk_memory.specs.{Entry.{Entry, with_note}, Kept.{CountsOrLacks, IsKept, LeavesOr}, KeyMark.key_mark};
 
 use crate::device_state::DeviceState;
 use crate::memory_fault::MemoryFault;

@@ -1,24 +1,15 @@
 -- A step whose report is judged.
 use Rattle.std.proofs.Common.{◌≡◌, ◌∷◌, List, Option, Result, Ok, Err, refl}
 use Rattle.std.specs.Prelude.{IsErrAnd}
-use Rattle.bus_signals.specs.Address.{Bytes}
-use Rattle.bus_signals.specs.declared.event.Event.{Event}
+use Rattle.bus_signals.specs.{Address.Bytes, declared.event.Event.Event}
 use Rattle.outside_edge.specs.Sink.{Puts, Takes}
 use Rattle.outside_edge.proofs.SinkLemmas.{prefix_after, takes_both}
-use Rattle.device_trace.specs.Play.{Play}
-use Rattle.device_trace.specs.Start.{Start}
-use Rattle.device_trace.specs.Text.{last_report, lines_of_step, some_line}
+use Rattle.device_trace.specs.{Play.Play, Start.Start, Text.{last_report, lines_of_step, some_line}}
 use Rattle.report_verifier.specs.Judge.{Judge}
-use Rattle.device_play.specs.Cuts.{StopsOnlyAt}
-use Rattle.device_play.specs.Watching.{HasSeen}
-use Rattle.device_play.specs.declared.put_fault.PutFault.{PutFault}
+use Rattle.device_play.specs.{Cuts.StopsOnlyAt, Watching.HasSeen, declared.put_fault.PutFault.PutFault}
 use Rattle.device_play.proofs.Cuts.{stops-later}
-use Rattle.device_cli.specs.declared.verdict.tally.Tally.{Tally}
-use Rattle.device_cli.specs.Judgement.{Remark, remark_cuts, remark_lines, tally_after}
-use Rattle.device_cli.specs.JudgedPlay.{CountsVerdicts, judge_account}
-use Rattle.device_cli.specs.RoundText.{piece_of_step}
-use Rattle.device_cli.proofs.RoundLines.{stops-in_round}
-use Rattle.device_cli.proofs.Tallies.{tally-more}
+use Rattle.device_cli.specs.{declared.verdict.tally.Tally.Tally, Judgement.{Remark, remark_cuts, remark_lines, tally_after}, JudgedPlay.{CountsVerdicts, judge_account}, RoundText.piece_of_step}
+use Rattle.device_cli.proofs.{RoundLines.stops-in_round, Tallies.tally-more}
 
 -- what is said of the report of the last step
 abbrev pub remark : Judge → Start → List Event → Play → Option Remark

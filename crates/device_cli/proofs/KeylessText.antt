@@ -3,42 +3,16 @@ use Rattle.std.proofs.Common.{◌≡◌, ◌∙◌, ◌+◌, ◌++◌, ◌∷◌
 use Rattle.std.specs.Prelude.{if◌then◌else◌, map, option_map}
 use Rattle.std.specs.List.{concat}
 use Rattle.std.proofs.lemmas.List.{append_cancel_left}
-use Rattle.bus_signals.specs.Address.{Bytes, Contents}
-use Rattle.bus_signals.specs.Bounds.{are_valid}
-use Rattle.bus_signals.specs.Map.{metadata_region}
-use Rattle.bus_signals.specs.Report.{ReportFields}
-use Rattle.bus_signals.specs.declared.bounds.Bounds.{Bounds}
-use Rattle.bus_signals.specs.declared.event.Event.{Event}
+use Rattle.bus_signals.specs.{Address.{Bytes, Contents}, Bounds.are_valid, Map.metadata_region, Report.ReportFields, declared.{bounds.Bounds.Bounds, event.Event.Event}}
 use Rattle.bus_signals.proofs.ValidRange.{are_valid-ranges}
-use Rattle.part_definitions.specs.Memory.{is_image_place}
-use Rattle.part_definitions.specs.Metadata.{bounds_in}
-use Rattle.part_definitions.specs.Region.{bounded_bytes, bytes_between, metadata_bytes, output_bytes, rest_bytes}
+use Rattle.part_definitions.specs.{Memory.is_image_place, Metadata.bounds_in, Region.{bounded_bytes, bytes_between, metadata_bytes, output_bytes, rest_bytes}}
 use Rattle.hex_loader.specs.HexText.{hex_text}
-use Rattle.device_trace.specs.Blank.{SameOutside}
-use Rattle.device_trace.specs.Logs.{Logs}
-use Rattle.device_trace.specs.Play.{Play}
-use Rattle.device_trace.specs.Start.{Start}
-use Rattle.device_trace.specs.Text.{end_line_after, last_report, lines_of, play_text, report_in, lines_of_step}
-use Rattle.device_trace.specs.Trace.{byte_after, logs_after, released_words}
+use Rattle.device_trace.specs.{Blank.SameOutside, Logs.Logs, Play.Play, Start.Start, Text.{end_line_after, last_report, lines_of, play_text, report_in, lines_of_step}, Trace.{byte_after, logs_after, released_words}}
 use Rattle.key_isolation.specs.Keyless.{keyless}
-use Rattle.key_isolation.proofs.Bytes.{same_if}
-use Rattle.key_isolation.proofs.Hiding.{open_start}
-use Rattle.key_isolation.proofs.Induction.{play_hides, releases_before}
-use Rattle.key_isolation.proofs.Numbers.{bounds_in-outside}
-use Rattle.key_isolation.proofs.OpenRecords.{image_place-open}
-use Rattle.key_isolation.proofs.TextBlank.{end_line_after-hide, lines_of-hide, play_text-hide, ram_bytes, report_where-hide, valid_bytes}
-use Rattle.key_isolation.proofs.TwoKeys.{byte-hide}
-use Rattle.report_verifier.specs.Comparison.{expected_bytes, expected_key, own_bytes}
-use Rattle.report_verifier.specs.Judge.{Judge, verdict_at}
-use Rattle.report_verifier.specs.Policy.{expect_at}
-use Rattle.report_verifier.specs.declared.verdict.Verdict.{Verdict}
-use Rattle.report_verifier.specs.declared.expect.Expect.{Expect}
+use Rattle.key_isolation.proofs.{Bytes.same_if, Hiding.open_start, Induction.{play_hides, releases_before}, Numbers.bounds_in-outside, OpenRecords.image_place-open, TextBlank.{end_line_after-hide, lines_of-hide, play_text-hide, ram_bytes, report_where-hide, valid_bytes}, TwoKeys.byte-hide}
+use Rattle.report_verifier.specs.{Comparison.{expected_bytes, expected_key, own_bytes}, Judge.{Judge, verdict_at}, Policy.expect_at, declared.{verdict.Verdict.Verdict, expect.Expect.Expect}}
 use Rattle.device_play.specs.Accounts.{end_line_of, memory_after}
-use Rattle.device_cli.specs.Judgement.{Remark, pair_shown, pair_with_one_mac, remark_on}
-use Rattle.device_cli.specs.KeylessText.{HasKeylessTexts}
-use Rattle.device_cli.specs.RoundText.{Piece, piece_of_step, piece_text, reports_in, round_lines, round_pieces, round_text, with_last}
-use Rattle.device_cli.specs.Unanswered.{unanswered_if}
-use Rattle.device_cli.specs.Verdicts.{is_accept, verdicts}
+use Rattle.device_cli.specs.{Judgement.{Remark, pair_shown, pair_with_one_mac, remark_on}, KeylessText.HasKeylessTexts, RoundText.{Piece, piece_of_step, piece_text, reports_in, round_lines, round_pieces, round_text, with_last}, Unanswered.unanswered_if, Verdicts.{is_accept, verdicts}}
 
 -- a device's own bytes are outside the secrets
 rest-outside : (left right : Contents) → SameOutside left right → (bounds : Bounds)

@@ -4,8 +4,7 @@ use Rattle.std.specs.Prelude.{if◌then◌else◌, nat_lt}
 use Rattle.std.proofs.lemmas.List.Elements.{All-from_get_or}
 use Rattle.std.proofs.lemmas.List.FromFn.{get_or-range_with_len}
 use Rattle.part_definitions.specs.TrustedFlag.{aux}
-use Rattle.text_scan.specs.Key.{key_of}
-use Rattle.text_scan.specs.declared.fault_at.FaultAt.{FaultAt}
+use Rattle.text_scan.specs.{Key.key_of, declared.fault_at.FaultAt.FaultAt}
 use Rattle.text_scan.proofs.HexBytes.{key_of-ok}
 use Rattle.hex_loader.specs.HexImage.{image_of}
 use Rattle.hex_loader.proofs.ImageBytes.{image_of-bytes}
@@ -13,21 +12,10 @@ use Rattle.hmac_core.proofs.Sha256Bytes.{sha256-bytes}
 use Rattle.sha2.proofs.Facts256.{length-sha256}
 use Rattle.sha2.specs.Sha256.{sha256}
 use Rattle.mac_coverage.specs.Coverage.{Gives32Bytes, IsDeviceKey, IsOfBytes}
-use Rattle.report_verifier.specs.Policy.{PolicyFields}
-use Rattle.report_verifier.specs.PolicyGrammar.{policy_of}
-use Rattle.report_verifier.specs.Validity.{are_valid_for}
+use Rattle.report_verifier.specs.{Policy.PolicyFields, PolicyGrammar.policy_of, Validity.are_valid_for, Judge.{Judge, judge_with}}
 use Rattle.report_verifier.proofs.PolicyBounds.{policy_of-valid}
-use Rattle.input_files.specs.Row.{FileKind, RowOf, Ends, Reads, go_on, read_file, file_value}
-use Rattle.device_cli.specs.Row.{Always, DevicePlay, start_in}
-use Rattle.input_files.specs.Reading.{Files, Reaches}
-use Rattle.input_files.specs.FileKind.{image_kind, key_kind, policy_kind, script_kind}
-use Rattle.device_cli.specs.Load.{load_key, load_image}
-use Rattle.device_cli.specs.LawfulPlay.{IsLawful, IsLawfulRow, IsPutLawfully}
-use Rattle.report_verifier.specs.Judge.{Judge, judge_with}
-use Rattle.device_cli.specs.Play.{PlayOutcome, play_with, steps_of, steps_row}
-use Rattle.device_cli.specs.Acceptance.{EachAcceptHasGrounds}
-use Rattle.device_cli.specs.Round.{RoundsHaveGrounds, round_row}
-use Rattle.device_cli.specs.Work.{load_play, work_row}
+use Rattle.input_files.specs.{Row.{FileKind, RowOf, Ends, Reads, go_on, read_file, file_value}, Reading.{Files, Reaches}, FileKind.{image_kind, key_kind, policy_kind, script_kind}}
+use Rattle.device_cli.specs.{Row.{Always, DevicePlay, start_in}, Load.{load_key, load_image}, LawfulPlay.{IsLawful, IsLawfulRow, IsPutLawfully}, Play.{PlayOutcome, play_with, steps_of, steps_row}, Acceptance.EachAcceptHasGrounds, Round.{RoundsHaveGrounds, round_row}, Work.{load_play, work_row}}
 use Rattle.device_cli.proofs.Grounds.{each_accept-has_grounds}
 use Rattle.device_play.proofs.PlayLaws.{keeps_key_hidden, obeys_laws}
 

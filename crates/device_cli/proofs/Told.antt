@@ -1,36 +1,17 @@
 -- What a command puts of a play before a watcher.
 use Rattle.std.proofs.Common.{◌≡◌, ◌≤◌, ◌⊎◌, [], ℕ, Result, Ok, Err, inl, inr, refl, length, sym, arith, append-nil, append_assoc}
 use Rattle.std.specs.Prelude.{IsErrAnd}
-use Rattle.bus_signals.specs.Address.{Bytes}
-use Rattle.bus_signals.specs.TraceFlag.{Flag}
+use Rattle.bus_signals.specs.{Address.Bytes, TraceFlag.Flag}
 use Rattle.hmac_core.specs.Hash.{Hash}
 use Rattle.outside_edge.specs.Sink.{Puts, Takes}
 use Rattle.hex_loader.specs.HexText.{hex_text}
-use Rattle.device_trace.specs.Play.{Play}
-use Rattle.device_trace.specs.Start.{Start}
-use Rattle.device_trace.specs.Text.{lines_of, play_text}
+use Rattle.device_trace.specs.{Play.Play, Start.Start, Text.{lines_of, play_text}}
 use Rattle.trace_files.specs.TraceText.{trace_text}
 use Rattle.device_core.specs.declared.live.Live.{Live}
 use Rattle.report_verifier.specs.Judge.{Judge}
-use Rattle.device_play.specs.Account.{Account, whole_text}
-use Rattle.device_play.specs.Accounts.{dump_account, end_line_of, line_account, memory_after, trace_account, wave_account}
-use Rattle.device_play.specs.Cuts.{CountsWriteFaults}
-use Rattle.device_play.specs.Limit.{most_steps}
-use Rattle.device_play.specs.Watching.{IsWatched}
-use Rattle.device_play.specs.declared.put_fault.PutFault.{PutFault}
-use Rattle.device_play.specs.declared.put_fault.PutFault.TheVariants.{Write, Memory}
+use Rattle.device_play.specs.{Account.{Account, whole_text}, Accounts.{dump_account, end_line_of, line_account, memory_after, trace_account, wave_account}, Cuts.CountsWriteFaults, Limit.most_steps, Watching.IsWatched, declared.put_fault.PutFault.{PutFault, TheVariants.{Write, Memory}}}
 use Rattle.device_play.proofs.TracedStep.{reads_back}
-use Rattle.device_cli.specs.declared.ending.Ending.{Ending}
-use Rattle.device_cli.specs.Answer.{PutsOutcome}
-use Rattle.device_cli.specs.Dump.{dump_text}
-use Rattle.device_cli.specs.JudgedPlay.{judge_account}
-use Rattle.device_cli.specs.Play.{text_outcome}
-use Rattle.device_cli.specs.Round.{judged_outcome}
-use Rattle.device_cli.specs.RoundText.{round_text}
-use Rattle.device_cli.specs.Row.{DevicePlay, Outcome, start_in}
-use Rattle.device_cli.specs.Told.{IsToldBy}
-use Rattle.device_cli.specs.Trace.{ReadsBack}
-use Rattle.device_cli.specs.Wave.{wave_text}
+use Rattle.device_cli.specs.{declared.ending.Ending.Ending, Answer.PutsOutcome, Dump.dump_text, JudgedPlay.judge_account, Play.text_outcome, Round.judged_outcome, RoundText.round_text, Row.{DevicePlay, Outcome, start_in}, Told.IsToldBy, Trace.ReadsBack, Wave.wave_text}
 
 pub play_text-whole : (start : Start) (play : Play)
     → play_text start play ≡ whole_text line_account start play

@@ -6,22 +6,12 @@ use Rattle.std.specs.Option.{is_none}
 use Rattle.std.proofs.lemmas.Bool.{cases_eq, cases_lt}
 use Rattle.std.proofs.lemmas.List.Sums.{prefix_len-le-length, prefix_len_passes, prefix_len_stops}
 use Rattle.std.proofs.lemmas.Option.{slice_get-get_or, slice_get_cases, slice_get_past, slice_get_within}
-use Rattle.outside_edge.specs.Count.{Rose}
-use Rattle.outside_edge.specs.Sink.{Takes, TakesPrefix}
+use Rattle.outside_edge.specs.{Count.Rose, Sink.{Takes, TakesPrefix}}
 use Rattle.outside_edge.proofs.SinkLemmas.{prefix_after, prefix_of_more, takes_both}
-use Rattle.report_verifier.specs.declared.asked.Asked.{Asked}
-use Rattle.report_verifier.specs.declared.verdict.Verdict.{Verdict}
-use Rattle.report_verifier.specs.declared.verdict.Verdict.TheVariants.{Accept}
-use Rattle.report_verifier.specs.declared.expect.Expect.{Expect}
-use Rattle.report_verifier.specs.Policy.{PolicyFields, expect_at, expectation}
-use Rattle.device_play.specs.declared.put_fault.PutFault.{PutFault}
-use Rattle.device_play.specs.declared.put_fault.PutFault.TheVariants.{Write, Memory}
+use Rattle.report_verifier.specs.{declared.{asked.Asked.Asked, verdict.Verdict.{Verdict, TheVariants.Accept}, expect.Expect.Expect}, Policy.{PolicyFields, expect_at, expectation}}
+use Rattle.device_play.specs.{declared.put_fault.PutFault.{PutFault, TheVariants.{Write, Memory}}}
 use Rattle.device_trace.specs.Text.{some_line}
-use Rattle.device_cli.specs.declared.ending.Ending.{Ending}
-use Rattle.device_cli.specs.Answer.{PutsOutcome}
-use Rattle.device_cli.specs.Row.{Outcome, ending_of}
-use Rattle.device_cli.specs.Unanswered.{first_unanswered, is_answered, unanswered_line, with_unanswered}
-use Rattle.device_cli.specs.Verdicts.{is_accept}
+use Rattle.device_cli.specs.{declared.ending.Ending.Ending, Answer.PutsOutcome, Row.{Outcome, ending_of}, Unanswered.{first_unanswered, is_answered, unanswered_line, with_unanswered}, Verdicts.is_accept}
 use Rattle.device_cli.proofs.Putting.{fails}
 
 -- what passes is found where it is the first that does, and lies in the range

@@ -3,32 +3,12 @@ use Rattle.std.proofs.Common.{◌≡◌, ◌<◌, [], ◌∷◌, ℕ, Bool, true
 use Rattle.std.specs.Prelude.{bytes_eq, codes, option_map, if◌then◌else◌}
 use Rattle.std.specs.Result.{result_ok}
 use Rattle.text_scan.specs.Decimal.{decimal_of}
-use Rattle.input_files.specs.FileKind.{image_kind, key_kind, policy_kind, script_kind}
-use Rattle.input_files.specs.Reading.{Files}
-use Rattle.input_files.specs.declared.status.Status.{Status}
-use Rattle.input_files.specs.declared.status.Status.TheVariants.{Memory}
+use Rattle.input_files.specs.{FileKind.{image_kind, key_kind, policy_kind, script_kind}, Reading.Files, declared.status.Status.{Status, TheVariants.Memory}}
 use Rattle.trace_files.specs.TraceText.{trace_text}
 use Rattle.bus_signals.specs.Address.{Bytes}
-use Rattle.device_trace.specs.Play.{Play}
-use Rattle.device_trace.specs.Start.{Start}
-use Rattle.device_trace.specs.Text.{play_text}
+use Rattle.device_trace.specs.{Play.Play, Start.Start, Text.play_text}
 use Rattle.device_play.specs.Limit.{most_steps}
-use Rattle.device_cli.specs.Asm.{asm_row_of}
-use Rattle.device_cli.specs.Audit.{audit_row_of}
-use Rattle.device_cli.specs.Command.{is_round, row_named, row_of}
-use Rattle.device_cli.specs.Dump.{dump_text}
-use Rattle.device_cli.specs.FileKind.{reports_kind, source_kind, trace_kind}
-use Rattle.device_cli.specs.Limit.{most_seed}
-use Rattle.device_cli.specs.List.{list_row_of}
-use Rattle.device_cli.specs.Play.{steps_row, steps_row_of, text_outcome}
-use Rattle.device_cli.specs.Request.{request_of, request_row_of, row_with}
-use Rattle.device_cli.specs.Round.{round_row_of}
-use Rattle.device_cli.specs.Row.{Always, Outcome, Row}
-use Rattle.device_cli.specs.Run.{IsRun}
-use Rattle.device_cli.specs.Unanswered.{behind_all}
-use Rattle.device_cli.specs.Verify.{verify_row_with}
-use Rattle.device_cli.specs.Wave.{wave_text}
-use Rattle.device_cli.specs.Work.{work_row, work_row_of}
+use Rattle.device_cli.specs.{Asm.asm_row_of, Audit.audit_row_of, Command.{is_round, row_named, row_of}, Dump.dump_text, FileKind.{reports_kind, source_kind, trace_kind}, Limit.most_seed, List.list_row_of, Play.{steps_row, steps_row_of, text_outcome}, Request.{request_of, request_row_of, row_with}, Round.round_row_of, Row.{Always, Outcome, Row}, Run.IsRun, Unanswered.behind_all, Verify.verify_row_with, Wave.wave_text, Work.{work_row, work_row_of}}
 use Rattle.device_cli.proofs.LawfulRow.{reached-always, read-always}
 
 -- there is no text at which the putting of this may stop

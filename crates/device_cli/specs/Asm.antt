@@ -2,8 +2,7 @@
 use Rattle.std.specs.Prelude.{ℕ, List, [], ◌∷◌, Option, Some, None}
 use Rattle.hex_loader.specs.HexText.{hex_text}
 use Rattle.input_files.specs.Row.{read_file}
-use Rattle.device_cli.specs.Row.{Row, plain, put}
-use Rattle.device_cli.specs.FileKind.{source_kind}
+use Rattle.device_cli.specs.{Row.{Row, plain, put}, FileKind.source_kind}
 
 -- `asm SOURCE`
 abbrev pub asm_row : List ℕ → Row

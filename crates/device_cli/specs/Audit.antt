@@ -1,10 +1,8 @@
 -- The command `audit`: whether a trace file is clean.
 use Rattle.std.specs.Prelude.{ℕ, List, [], ◌∷◌, Option, Some, None, is_none}
-use Rattle.trace_files.specs.declared.audited.Audited.{Audited}
-use Rattle.trace_files.specs.AuditText.{audit_text}
+use Rattle.trace_files.specs.{declared.audited.Audited.Audited, AuditText.audit_text}
 use Rattle.input_files.specs.Row.{read_file}
-use Rattle.device_cli.specs.Row.{Outcome, Row, plain, put}
-use Rattle.device_cli.specs.FileKind.{trace_kind}
+use Rattle.device_cli.specs.{Row.{Outcome, Row, plain, put}, FileKind.trace_kind}
 
 -- what is put of an audit: an offence is not accepted
 abbrev pub audit_outcome : Audited → Outcome

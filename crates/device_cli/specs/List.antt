@@ -1,9 +1,8 @@
 -- The command `list`: the listing of an image.
 use Rattle.std.specs.Prelude.{ℕ, List, [], ◌∷◌, Option, Some, None}
 use Rattle.msp_asm.specs.Listing.{listing}
-use Rattle.input_files.specs.Row.{read_file}
+use Rattle.input_files.specs.{Row.read_file, FileKind.image_kind}
 use Rattle.device_cli.specs.Row.{Row, plain, put}
-use Rattle.input_files.specs.FileKind.{image_kind}
 
 -- `list IMAGE`
 abbrev pub list_row : List ℕ → Row

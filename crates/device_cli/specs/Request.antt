@@ -2,17 +2,12 @@
 use Rattle.std.specs.Prelude.{ℕ, List, [], ◌∷◌, Option, Some, None, Result, Ok}
 use Rattle.std.specs.Result.{result_ok}
 use Rattle.sha2.specs.Sha256.{sha256}
-use Rattle.text_scan.specs.declared.fault_kind.FaultKind.{FaultKind}
-use Rattle.text_scan.specs.Decimal.{decimal_of}
-use Rattle.text_scan.specs.Hexadecimal.{hex_bytes_of}
-use Rattle.text_scan.specs.Reader.{◌>>=◌}
+use Rattle.text_scan.specs.{declared.fault_kind.FaultKind.FaultKind, Decimal.decimal_of, Hexadecimal.hex_bytes_of, Reader.◌>>=◌}
 use Rattle.part_definitions.specs.Request.{request_token}
 use Rattle.report_text.specs.RequestLine.{request_line}
 use Rattle.report_verifier.specs.Expectation.{count_bytes}
-use Rattle.input_files.specs.FileKind.{key_kind}
-use Rattle.device_cli.specs.Limit.{most_count}
-use Rattle.input_files.specs.Row.{read_file}
-use Rattle.device_cli.specs.Row.{Row, plain, put}
+use Rattle.input_files.specs.{FileKind.key_kind, Row.read_file}
+use Rattle.device_cli.specs.{Limit.most_count, Row.{Row, plain, put}}
 
 -- the token is that of the device's key
 abbrev pub request_text : List ℕ → ℕ → List ℕ → List ℕ

@@ -1,11 +1,8 @@
 -- What a run of arguments that may spell a row does.
 use Rattle.std.specs.Prelude.{◌≡◌, ℕ, Option, Some, None}
 use Rattle.bus_signals.specs.Address.{Bytes}
-use Rattle.input_files.specs.declared.status.Status.{Status}
-use Rattle.input_files.specs.declared.status.Status.TheVariants.{Words}
-use Rattle.input_files.specs.Reading.{Files}
-use Rattle.device_cli.specs.Answer.{Answers}
-use Rattle.device_cli.specs.Row.{Row}
+use Rattle.input_files.specs.{declared.status.Status.{Status, TheVariants.Words}, Reading.Files}
+use Rattle.device_cli.specs.{Answer.Answers, Row.Row}
 
 -- over a shelf and a sink before and after: where they spell none, nothing was read or put
 abbrev pub IsRun : {S W : Type 0} → (S → Files) → (S → ℕ) → (S → ℕ) → (W → Bytes → Type 0)

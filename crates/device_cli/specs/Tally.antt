@@ -2,8 +2,7 @@
 use Rattle.std.specs.Prelude.{◌≡◌, ◌==◌, ◌+◌, ◌&&◌, List, length, if◌then◌else◌}
 use Rattle.std.specs.List.{prefix_len}
 use Rattle.report_verifier.specs.declared.verdict.Verdict.{Verdict}
-use Rattle.device_cli.specs.declared.verdict.tally.Tally.{Tally}
-use Rattle.device_cli.specs.Verdicts.{is_accept}
+use Rattle.device_cli.specs.{declared.verdict.tally.Tally.Tally, Verdicts.is_accept}
 
 -- how many verdicts there are, and how many of them stand before the first that is not `accept`
 pub record Counts (decisions : List Verdict) (tally : Tally) : Type 0 where

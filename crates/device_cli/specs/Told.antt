@@ -1,7 +1,6 @@
 -- What is put of a play is what a watcher says of it.
 use Rattle.std.specs.Prelude.{◌≡◌, ◌≤◌, length}
-use Rattle.device_play.specs.Account.{Account, whole_text}
-use Rattle.device_play.specs.Limit.{most_steps}
+use Rattle.device_play.specs.{Account.{Account, whole_text}, Limit.most_steps}
 use Rattle.device_cli.specs.Row.{DevicePlay, Outcome, start_in}
 
 -- and this holds of it once all of it was put

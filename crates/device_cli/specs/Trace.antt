@@ -1,13 +1,8 @@
 -- The command `trace`: the trace file of a play.
 use Rattle.std.specs.Prelude.{◌≡◌, ℕ, List, [], ◌∷◌, Option, None, Ok, IfSome, bytes_eq, codes, if◌then◌else◌}
-use Rattle.device_trace.specs.Play.{Play}
-use Rattle.device_trace.specs.Start.{Start}
-use Rattle.trace_files.specs.Clean.{IsClean}
-use Rattle.trace_files.specs.TraceFile.{trace_of}
-use Rattle.trace_files.specs.KeylessLines.{HasKeylessLines}
-use Rattle.trace_files.specs.TraceText.{trace_lines, trace_text}
-use Rattle.device_cli.specs.Row.{Outcome, Row, start_in}
-use Rattle.device_cli.specs.Play.{steps_row_of, text_outcome}
+use Rattle.device_trace.specs.{Play.Play, Start.Start}
+use Rattle.trace_files.specs.{Clean.IsClean, TraceFile.trace_of, KeylessLines.HasKeylessLines, TraceText.{trace_lines, trace_text}}
+use Rattle.device_cli.specs.{Row.{Outcome, Row, start_in}, Play.{steps_row_of, text_outcome}}
 
 -- the row that the arguments after `trace` spell: they are those of a play
 abbrev pub trace_row_of : List (List ℕ) → Option Row

@@ -6,10 +6,8 @@ use Rattle.std.specs.Option.{is_none, option_map_or}
 use Rattle.bus_signals.specs.Address.{Bytes}
 use Rattle.printed_lines.specs.Line.{line_of}
 use Rattle.device_trace.specs.Text.{some_line}
-use Rattle.report_verifier.specs.declared.asked.Asked.{Asked}
-use Rattle.report_verifier.specs.declared.verdict.Verdict.{Verdict}
-use Rattle.device_cli.specs.Row.{Outcome, Row}
-use Rattle.device_cli.specs.Verdicts.{is_accept}
+use Rattle.report_verifier.specs.{declared.{asked.Asked.Asked, verdict.Verdict.Verdict}}
+use Rattle.device_cli.specs.{Row.{Outcome, Row}, Verdicts.is_accept}
 
 -- report i, from 0, is there and accepted
 abbrev pub is_answered : List Verdict → ℕ → Bool

@@ -2,9 +2,7 @@
 use Rattle.std.specs.Prelude.{◌+◌, ◌++◌, ◌&&◌, ℕ, Bool, true, false, List, [], ◌∷◌}
 use Rattle.bus_signals.specs.Report.{ReportFields}
 use Rattle.report_text.specs.VerdictLine.{verdict_line}
-use Rattle.report_verifier.specs.declared.verdict.Verdict.{Verdict}
-use Rattle.report_verifier.specs.declared.verdict.Verdict.TheVariants.{Accept}
-use Rattle.report_verifier.specs.Judge.{Judge, verdict_at}
+use Rattle.report_verifier.specs.{declared.verdict.Verdict.{Verdict, TheVariants.Accept}, Judge.{Judge, verdict_at}}
 
 -- of which the first is expected to answer this request, counted from 0
 abbrev pub verdicts_from : Judge → ℕ → List ReportFields → List Verdict

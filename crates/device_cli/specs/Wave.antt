@@ -1,12 +1,9 @@
 -- The command `wave`: the waveform of a play.
 use Rattle.std.specs.Prelude.{ℕ, List, Option}
 use Rattle.bus_signals.specs.Address.{Bytes}
-use Rattle.trace_files.specs.WaveText.{wave_file}
-use Rattle.device_trace.specs.Play.{Play}
-use Rattle.device_trace.specs.Start.{Start}
-use Rattle.trace_files.specs.WaveSamples.{wave_samples}
-use Rattle.device_cli.specs.Row.{Row}
-use Rattle.device_cli.specs.Play.{text_outcome, steps_row_of}
+use Rattle.trace_files.specs.{WaveText.wave_file, WaveSamples.wave_samples}
+use Rattle.device_trace.specs.{Play.Play, Start.Start}
+use Rattle.device_cli.specs.{Row.Row, Play.{text_outcome, steps_row_of}}
 
 -- the waveform of the lines of a play, in which the secrets are blanked, and of what stands beside
 -- them

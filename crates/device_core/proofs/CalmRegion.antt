@@ -1,37 +1,12 @@
 -- Calm steps in a row.
 use borrow.Author.Tests.{not-true}
 use Rattle.std.proofs.Common.{◌≡◌, ◌∙◌, ◌&&◌, ◌∷◌, ℕ, Bool, true, false, not, Option, Some, None, inr, refl, sym, ap}
-use Rattle.bus_signals.specs.declared.access.Access.{Access}
-use Rattle.bus_signals.specs.declared.bus_record.BusRecord.{BusRecord}
-use Rattle.bus_signals.specs.declared.kind.Kind.{Kind}
-use Rattle.bus_signals.specs.declared.kind.Kind.TheVariants.{Boot, Cpu, Idle, Irq, Rom}
-use Rattle.bus_signals.specs.declared.region.Region.{Region}
-use Rattle.bus_signals.specs.declared.signals.Signals.{Signals}
-use Rattle.bus_signals.specs.Bounds.{executable_region}
-use Rattle.bus_signals.specs.ExecFlag.{last_pc}
-use Rattle.bus_signals.specs.Kind.{is_cpu}
-use Rattle.bus_signals.specs.Map.{metadata_region}
-use Rattle.bus_signals.specs.SeenRecord.{SeenRecord}
-use Rattle.bus_signals.specs.TraceFlag.{Flag}
-use Rattle.part_definitions.specs.CpuRegister.{Registers}
-use Rattle.part_definitions.specs.Dma.{dma_access}
-use Rattle.part_definitions.specs.FirstRule.{breaks_i1}
-use Rattle.part_definitions.specs.Memory.{ShownFlags}
-use Rattle.device_trace.specs.Logs.{Logs, flags_shown, logged_bounds, with_record}
-use Rattle.device_trace.specs.Peripherals.{Peripherals}
-use Rattle.device_trace.specs.Progress.{last_registers}
-use Rattle.device_trace.specs.Signals.{signals_at, signals_of, value_read}
-use Rattle.device_trace.specs.Start.{Start}
-use Rattle.device_trace.specs.Step.{dma_value_read, record_of}
+use Rattle.bus_signals.specs.{declared.{access.Access.Access, bus_record.BusRecord.BusRecord, kind.Kind.{Kind, TheVariants.{Boot, Cpu, Idle, Irq, Rom}}, region.Region.Region, signals.Signals.Signals}, Bounds.executable_region, ExecFlag.last_pc, Kind.is_cpu, Map.metadata_region, SeenRecord.SeenRecord, TraceFlag.Flag}
+use Rattle.part_definitions.specs.{CpuRegister.Registers, Dma.dma_access, FirstRule.breaks_i1, Memory.ShownFlags}
+use Rattle.device_trace.specs.{Logs.{Logs, flags_shown, logged_bounds, with_record}, Peripherals.Peripherals, Progress.last_registers, Signals.{signals_at, signals_of, value_read}, Start.Start, Step.{dma_value_read, record_of}}
 use Rattle.trace_facts.proofs.BoundsStay.{logged_bounds-stay}
-use Rattle.device_core.specs.Bus.{TurnStandsFor, answer_in, logs_after_step, record_performed}
-use Rattle.device_core.specs.Calm.{IsCalm, IsCalmRegion, ReadsCalmly, is_calm_access, is_calm_turn}
-use Rattle.device_core.specs.FlagsKept.{IsQuietStep, LeavesFlags, has_flag}
-use Rattle.device_core.specs.Quiet.{IsQuietFrom, all_quiet}
-use Rattle.device_core.specs.declared.turn.Turn.{Turn}
-use Rattle.device_core.proofs.CalmStep.{calm-peripherals, calm-quiet, calm-unbroken, calm-writes}
-use Rattle.device_core.proofs.FlagsShown.{flags-kept}
-use Rattle.device_core.proofs.Steps.{record_of-tried}
+use Rattle.device_core.specs.{Bus.{TurnStandsFor, answer_in, logs_after_step, record_performed}, Calm.{IsCalm, IsCalmRegion, ReadsCalmly, is_calm_access, is_calm_turn}, FlagsKept.{IsQuietStep, LeavesFlags, has_flag}, Quiet.{IsQuietFrom, all_quiet}, declared.turn.Turn.Turn}
+use Rattle.device_core.proofs.{CalmStep.{calm-peripherals, calm-quiet, calm-unbroken, calm-writes}, FlagsShown.flags-kept, Steps.record_of-tried}
 
 four-parts : (first second third last : Bool)
     → (first && second && third && last) ≡ true

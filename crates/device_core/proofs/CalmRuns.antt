@@ -1,41 +1,14 @@
 -- A processor that runs, after a calm step.
 use Rattle.std.proofs.Common.{◌≡◌, ◌∙◌, ◌+◌, ℕ, Bool, true, false, Some, None, inl, refl, sym, subst}
-use Rattle.bus_signals.specs.declared.access.Access.{Access}
-use Rattle.bus_signals.specs.declared.access.Access.TheVariants.{Fetch}
-use Rattle.bus_signals.specs.declared.kind.Kind.TheVariants.{Cpu}
-use Rattle.bus_signals.specs.declared.region.Region.{Region}
-use Rattle.bus_signals.specs.TraceFlag.{Flag}
-use Rattle.part_definitions.specs.CpuRegister.{Registers}
-use Rattle.part_definitions.specs.CpuState.{CpuState, Boundary, Executing, Entering, cpu_after, is_at_boundary}
-use Rattle.part_definitions.specs.FirstRule.{breaks_i1}
-use Rattle.part_definitions.specs.NextAccess.{is_illegal}
+use Rattle.bus_signals.specs.{declared.{access.Access.{Access, TheVariants.Fetch}, kind.Kind.TheVariants.Cpu, region.Region.Region}, TraceFlag.Flag}
+use Rattle.part_definitions.specs.{CpuRegister.Registers, CpuState.{CpuState, Boundary, Executing, Entering, cpu_after, is_at_boundary}, FirstRule.breaks_i1, NextAccess.is_illegal}
 use Rattle.hmac_core.specs.Hash.{Hash}
 use Rattle.msp_exec.specs.Course.{CpuStandsFor}
-use Rattle.swatt_rom.specs.RomCall.{NoCall}
-use Rattle.swatt_rom.specs.Rom.{RomStandsFor}
-use Rattle.device_trace.specs.Level.{level_after}
-use Rattle.device_trace.specs.Logs.{Logs, step_progress}
-use Rattle.device_trace.specs.Play.{Play}
-use Rattle.device_trace.specs.Progress.{Progress, Held, InCall, Runs, fetches_opcode}
-use Rattle.device_trace.specs.Signals.{proposed_access, signals_at, signals_of, step_kind, value_read}
-use Rattle.device_trace.specs.Start.{Start}
-use Rattle.device_trace.specs.Step.{record_of}
-use Rattle.device_trace.specs.Trace.{logs_after}
-use Rattle.device_core.specs.Bus.{BusStandsFor, answer_in, logs_after_step}
-use Rattle.device_core.specs.Calm.{IsCalmRegion, ReadsCalmly}
-use Rattle.device_core.specs.Machine.{EndsAt, StandsAfter, WritesBy, cpu_of}
-use Rattle.device_core.specs.Quiet.{IsQuietFrom, all_quiet}
-use Rattle.device_core.specs.Silence.{with_idle}
-use Rattle.device_core.specs.declared.machine.Machine.{Machine}
-use Rattle.device_core.specs.declared.stage.Stage.TheVariants.{Running}
-use Rattle.device_core.proofs.Calls.{ended}
-use Rattle.device_core.proofs.CalmRegion.{calm-after, calm-answer, calm-quietly}
+use Rattle.swatt_rom.specs.{RomCall.NoCall, Rom.RomStandsFor}
+use Rattle.device_trace.specs.{Level.level_after, Logs.{Logs, step_progress}, Play.Play, Progress.{Progress, Held, InCall, Runs, fetches_opcode}, Signals.{proposed_access, signals_at, signals_of, step_kind, value_read}, Start.Start, Step.record_of, Trace.logs_after}
+use Rattle.device_core.specs.{Bus.{BusStandsFor, answer_in, logs_after_step}, Calm.{IsCalmRegion, ReadsCalmly}, Machine.{EndsAt, StandsAfter, WritesBy, cpu_of}, Quiet.{IsQuietFrom, all_quiet}, Silence.with_idle, declared.{machine.Machine.Machine, stage.Stage.TheVariants.Running}}
+use Rattle.device_core.proofs.{Calls.ended, CalmRegion.{calm-after, calm-answer, calm-quietly}, Decisions.{decision-none, other-decision}, Idle.{idle-logs, idle-more}, Levels.level-step, NextProgress.progress-performed, Turns.next-runs}
 use Rattle.std.proofs.lemmas.Bool.{and_right}
-use Rattle.device_core.proofs.Decisions.{decision-none, other-decision}
-use Rattle.device_core.proofs.Idle.{idle-logs, idle-more}
-use Rattle.device_core.proofs.Levels.{level-step}
-use Rattle.device_core.proofs.NextProgress.{progress-performed}
-use Rattle.device_core.proofs.Turns.{next-runs}
 
 signals-cpu : (start : Start) (logs : Logs) → (signals_of start logs false).kind ≡ step_kind logs
 unfolding signals_at

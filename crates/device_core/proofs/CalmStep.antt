@@ -4,34 +4,11 @@ use Rattle.std.specs.Prelude.{nat_le, nat_lt, option_to_list}
 use Rattle.std.specs.List.{list_any}
 use Rattle.std.proofs.lemmas.Bool.{and_right}
 use Rattle.std.proofs.lemmas.Bool.Decides.{nat_tests}
-use Rattle.word_arith.specs.declared.size.Size.{Size}
-use Rattle.word_arith.specs.declared.size.Size.TheVariants.{Byte, Word}
-use Rattle.bus_signals.specs.declared.access.Access.{Access}
-use Rattle.bus_signals.specs.declared.access.Access.TheVariants.{Fetch, Read, Write}
-use Rattle.bus_signals.specs.declared.bounds.Bounds.{Bounds}
-use Rattle.bus_signals.specs.declared.bus_record.BusRecord.{BusRecord}
-use Rattle.bus_signals.specs.declared.kind.Kind.TheVariants.{Cpu}
-use Rattle.bus_signals.specs.declared.region.Region.{Region}
-use Rattle.bus_signals.specs.declared.signals.Signals.{Signals}
-use Rattle.bus_signals.specs.Access.{some_writes, without_number}
-use Rattle.bus_signals.specs.Bounds.{executable_region, output_region}
-use Rattle.bus_signals.specs.ExecFlag.{fetches_outside, ran_at, ran_inside, writes_to}
-use Rattle.bus_signals.specs.Map.{is_within, key_region, lies_in, metadata_region, ram_region, rom_region, stack_region, timer_region, serial_region, dma_region, touches, some_touches, ROM_EXIT}
-use Rattle.bus_signals.specs.TraceFlag.{IsRecordOf, is_quiet}
-use Rattle.part_definitions.specs.CpuRegister.{Registers}
-use Rattle.part_definitions.specs.CpuState.{Boundary, Executing, Entering}
-use Rattle.part_definitions.specs.FirstRule.{first_rule, breaks_i1}
-use Rattle.part_definitions.specs.MonitorRule.{atomicity_rule, key_rule, in_rom, leaves_stack_and_mac, was_inside}
-use Rattle.part_definitions.specs.Dma.{DmaEvent}
-use Rattle.part_definitions.specs.Serial.{SerialEvent, byte_sent}
-use Rattle.part_definitions.specs.Timer.{TimerEvent, Tick}
-use Rattle.device_trace.specs.Logs.{Logs, peripherals_after, vector_of, vector_taken}
-use Rattle.device_trace.specs.Peripherals.{serial_after, with_dma_access, with_timer_access}
-use Rattle.device_trace.specs.Progress.{Progress, Held, InCall, Runs}
-use Rattle.device_trace.specs.Step.{record_from}
-use Rattle.device_trace.specs.Text.{byte_sent_by}
-use Rattle.device_core.specs.Calm.{IsCalm, is_above_rom, is_calm_access, is_free}
-use Rattle.device_core.specs.Silence.{has_line}
+use Rattle.word_arith.specs.{declared.size.Size.{Size, TheVariants.{Byte, Word}}}
+use Rattle.bus_signals.specs.{declared.{access.Access.{Access, TheVariants.{Fetch, Read, Write}}, bounds.Bounds.Bounds, bus_record.BusRecord.BusRecord, kind.Kind.TheVariants.Cpu, region.Region.Region, signals.Signals.Signals}, Access.{some_writes, without_number}, Bounds.{executable_region, output_region}, ExecFlag.{fetches_outside, ran_at, ran_inside, writes_to}, Map.{is_within, key_region, lies_in, metadata_region, ram_region, rom_region, stack_region, timer_region, serial_region, dma_region, touches, some_touches, ROM_EXIT}, TraceFlag.{IsRecordOf, is_quiet}}
+use Rattle.part_definitions.specs.{CpuRegister.Registers, CpuState.{Boundary, Executing, Entering}, FirstRule.{first_rule, breaks_i1}, MonitorRule.{atomicity_rule, key_rule, in_rom, leaves_stack_and_mac, was_inside}, Dma.DmaEvent, Serial.{SerialEvent, byte_sent}, Timer.{TimerEvent, Tick}}
+use Rattle.device_trace.specs.{Logs.{Logs, peripherals_after, vector_of, vector_taken}, Peripherals.{serial_after, with_dma_access, with_timer_access}, Progress.{Progress, Held, InCall, Runs}, Step.record_from, Text.byte_sent_by}
+use Rattle.device_core.specs.{Calm.{IsCalm, is_above_rom, is_calm_access, is_free}, Silence.has_line}
 
 -- no byte of an access to free RAM is here
 abbrev pub is_beside : Region → Bool

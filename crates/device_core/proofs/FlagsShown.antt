@@ -1,11 +1,8 @@
 -- What memory shows of the flags after a step.
 use Rattle.std.proofs.Common.{◌≡◌, ◌∙◌, Bool, true, false, ◌∷◌, map, if◌then◌else◌, refl, sym, ap}
 use mathlib.Core.Bool.{beq}
-use Rattle.bus_signals.specs.TraceFlag.{Flag}
-use Rattle.bus_signals.specs.SeenRecord.{SeenRecord, SeenHistory}
-use Rattle.device_trace.specs.Blank.{blank_seen}
-use Rattle.device_trace.specs.Logs.{aux_shown, flags_shown, goes_on_in_call, records_until_call}
-use Rattle.device_trace.specs.Start.{Start}
+use Rattle.bus_signals.specs.{TraceFlag.Flag, SeenRecord.{SeenRecord, SeenHistory}}
+use Rattle.device_trace.specs.{Blank.blank_seen, Logs.{aux_shown, flags_shown, goes_on_in_call, records_until_call}, Start.Start}
 use Rattle.device_core.specs.FlagsKept.{LeavesFlags}
 
 until-more :

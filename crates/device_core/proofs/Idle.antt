@@ -1,22 +1,9 @@
 -- Steps without events, and those that have no line.
 use Rattle.std.proofs.Common.{◌≡◌, ◌∙◌, ◌-◌, ◌&&◌, ◌||◌, ℕ, Bool, true, false, not, [], ◌∷◌, Option, None, Some, is_none, is_some, option_map, refl, sym, ap, arith, add-one, subst, length, ◌+◌, zero, suc}
-use Rattle.bus_signals.specs.declared.rule.Rule.{Rule}
-use Rattle.bus_signals.specs.SeenRecord.{SeenHistory}
+use Rattle.bus_signals.specs.{declared.rule.Rule.Rule, SeenRecord.SeenHistory, TraceFlag.Flag}
 use Rattle.hmac_core.specs.Hash.{Hash}
-use Rattle.device_trace.specs.Play.{Play}
-use Rattle.device_trace.specs.Logs.{finishes_call, with_events}
-use Rattle.device_trace.specs.Start.{Start}
-use Rattle.device_trace.specs.Step.{next_record, next_signals}
-use Rattle.device_trace.specs.Text.{byte_sent_in, last_byte_sent, last_decision, last_denial, last_report}
-use Rattle.device_trace.specs.Trace.{trace, last_record, last_signals, logs_after}
-use Rattle.bus_signals.specs.TraceFlag.{Flag}
-use Rattle.device_trace.specs.Signals.{signals_of}
-use Rattle.device_core.specs.Machine.{MachineStandsFor, PlaysAt, StandsAfter, stage_of}
-use Rattle.device_core.specs.declared.last_step.LastStep.{LastStep}
-use Rattle.device_core.specs.declared.machine.Machine.{Machine}
-use Rattle.device_core.specs.declared.stage.Stage.{Stage}
-use Rattle.device_core.specs.Bus.{last_seen, KeepsSignals, LastStandsFor, logs_after_step}
-use Rattle.device_core.specs.Silence.{is_silent, last_rule, with_idle, AreSilent}
+use Rattle.device_trace.specs.{Play.Play, Logs.{finishes_call, with_events}, Start.Start, Step.{next_record, next_signals}, Text.{byte_sent_in, last_byte_sent, last_decision, last_denial, last_report}, Trace.{trace, last_record, last_signals, logs_after}, Signals.signals_of}
+use Rattle.device_core.specs.{Machine.{MachineStandsFor, PlaysAt, StandsAfter, stage_of}, declared.{last_step.LastStep.LastStep, machine.Machine.Machine, stage.Stage.Stage}, Bus.{last_seen, KeepsSignals, LastStandsFor, logs_after_step}, Silence.{is_silent, last_rule, with_idle, AreSilent}}
 use Rattle.device_core.proofs.Histories.{last_report-where, last_seen-last_record, silent-Some, silent-None}
 
 pub idle-logs :

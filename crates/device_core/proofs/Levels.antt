@@ -2,21 +2,13 @@
 use Rattle.std.proofs.Common.{◌≡◌, ◌∙◌, ◌⊎◌, ◌==◌, ◌++◌, ℕ, Bool, true, false, List, [], ◌∷◌, Option, None, Some, if◌then◌else◌, refl, ap, subst, inl, inr, arith}
 use Rattle.std.proofs.lemmas.Bool.{false≢true}
 use Rattle.std.proofs.lemmas.Bool.Decides.{nat_tests}
-use Rattle.bus_signals.specs.declared.kind.Kind.{Kind}
-use Rattle.bus_signals.specs.declared.kind.Kind.TheVariants.{Cpu, Idle, Irq}
-use Rattle.bus_signals.specs.Kind.{is_irq}
+use Rattle.bus_signals.specs.{declared.kind.Kind.{Kind, TheVariants.{Cpu, Idle, Irq}}, Kind.is_irq}
 use Rattle.msp_decode.specs.Head.{head_of}
-use Rattle.part_definitions.specs.CpuRegister.{Registers}
-use Rattle.part_definitions.specs.CpuState.{CpuState, Boundary, Executing, Entering, completion_or, cpu_after, is_at_boundary}
-use Rattle.part_definitions.specs.NextAccess.{Next, Asks, Completes, next_access, entry_access}
+use Rattle.part_definitions.specs.{CpuRegister.Registers, CpuState.{CpuState, Boundary, Executing, Entering, completion_or, cpu_after, is_at_boundary}, NextAccess.{Next, Asks, Completes, next_access, entry_access}}
 use Rattle.msp_exec.specs.Level.{level_begun, level_entered}
 use Rattle.word_arith.specs.Word16.{Word16}
-use Rattle.device_trace.specs.Level.{level_after, level_from_boundary}
-use Rattle.device_trace.specs.Logs.{Logs, vector_taken, with_record}
-use Rattle.device_trace.specs.Progress.{Progress, Held, Runs, InCall, after_return, fetches_opcode, kind_of, progress_within}
-use Rattle.device_trace.specs.Start.{Start}
-use Rattle.device_core.specs.Bus.{logs_after_step}
-use Rattle.device_core.specs.Machine.{cpu_of, level_within}
+use Rattle.device_trace.specs.{Level.{level_after, level_from_boundary}, Logs.{Logs, vector_taken, with_record}, Progress.{Progress, Held, Runs, InCall, after_return, fetches_opcode, kind_of, progress_within}, Start.Start}
+use Rattle.device_core.specs.{Bus.logs_after_step, Machine.{cpu_of, level_within}}
 use Rattle.device_core.proofs.Turns.{boundary_kind-Irq}
 
 pub level-step :

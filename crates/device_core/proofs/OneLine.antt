@@ -3,38 +3,13 @@ use Rattle.std.proofs.Common.{◌≡◌, ◌∙◌, ◌-◌, ◌&&◌, ◌==◌,
 use Rattle.std.proofs.lemmas.Bool.{eqb-true, false≢true}
 use Rattle.std.proofs.lemmas.Bool.Decides.{nat_tests}
 use Rattle.std.proofs.Common.{arith}
-use Rattle.word_arith.specs.declared.size.Size.{Size}
-use Rattle.word_arith.specs.declared.size.Size.TheVariants.{Byte, Word}
-use Rattle.bus_signals.specs.declared.access.Access.{Access}
-use Rattle.bus_signals.specs.declared.access.Access.TheVariants.{Fetch, Read, Write}
-use Rattle.bus_signals.specs.declared.bus_record.BusRecord.{BusRecord}
-use Rattle.bus_signals.specs.Report.{fields_of}
-use Rattle.bus_signals.specs.declared.report_view.ReportView.{ReportView}
-use Rattle.bus_signals.specs.declared.rule.Rule.{Rule}
-use Rattle.bus_signals.specs.Access.{some_writes}
-use Rattle.bus_signals.specs.Kind.{is_rom}
-use Rattle.bus_signals.specs.Map.{ROM_EXIT}
-use Rattle.bus_signals.specs.ExecFlag.{last_pc}
-use Rattle.part_definitions.specs.MonitorRule.{in_rom, is_written_by_rom, leaves_stack_and_mac}
-use Rattle.part_definitions.specs.PeripheralRegister.{covers}
-use Rattle.part_definitions.specs.Request.{ATTESTS}
-use Rattle.part_definitions.specs.Serial.{SERIAL_SEND}
-use Rattle.part_definitions.specs.FirstRule.{first_rule}
-use Rattle.device_trace.specs.Logs.{Logs, finishes_call, with_events}
-use Rattle.device_trace.specs.Signals.{signals_of}
-use Rattle.device_trace.specs.Play.{Play}
-use Rattle.device_trace.specs.Start.{Start}
-use Rattle.device_trace.specs.Step.{asks_reset, next_record, record_of}
-use Rattle.device_trace.specs.Text.{byte_sent_by, byte_sent_in, denial_where, last_byte_sent, last_decision, report_of}
-use Rattle.device_trace.specs.Trace.{trace, last_record, logs_after}
-use Rattle.device_core.specs.Silence.{is_silent, last_rule}
-use Rattle.device_core.specs.StepLine.{IsLastLine, byte_in_line, denied_in_line, report_in_line, rule_in_line}
-use Rattle.device_core.specs.declared.step_line.StepLine.{StepLine}
-use Rattle.device_core.specs.declared.step_line.StepLine.TheVariants.{Denied, Report}
+use Rattle.word_arith.specs.{declared.size.Size.{Size, TheVariants.{Byte, Word}}}
+use Rattle.bus_signals.specs.{declared.{access.Access.{Access, TheVariants.{Fetch, Read, Write}}, bus_record.BusRecord.BusRecord, report_view.ReportView.ReportView, rule.Rule.Rule}, Report.fields_of, Access.some_writes, Kind.is_rom, Map.ROM_EXIT, ExecFlag.last_pc}
+use Rattle.part_definitions.specs.{MonitorRule.{in_rom, is_written_by_rom, leaves_stack_and_mac}, PeripheralRegister.covers, Request.ATTESTS, Serial.SERIAL_SEND, FirstRule.first_rule}
+use Rattle.device_trace.specs.{Logs.{Logs, finishes_call, with_events}, Signals.signals_of, Play.Play, Start.Start, Step.{asks_reset, next_record, record_of}, Text.{byte_sent_by, byte_sent_in, denial_where, last_byte_sent, last_decision, report_of}, Trace.{trace, last_record, logs_after}}
+use Rattle.device_core.specs.{Silence.{is_silent, last_rule}, StepLine.{IsLastLine, byte_in_line, denied_in_line, report_in_line, rule_in_line}, declared.step_line.StepLine.{StepLine, TheVariants.{Denied, Report}}}
 use Rattle.trace_facts.proofs.BreaksNoRule.{first_rule-none}
-use Rattle.device_core.proofs.Decisions.{last_decision-Some, no_decision}
-use Rattle.device_core.proofs.Histories.{last_byte_sent-Some, last_report-where, last_rule-Some, other-report}
-use Rattle.device_core.proofs.Idle.{silent-parts, undecided-denial, undecided-report}
+use Rattle.device_core.proofs.{Decisions.{last_decision-Some, no_decision}, Histories.{last_byte_sent-Some, last_report-where, last_rule-Some, other-report}, Idle.{silent-parts, undecided-denial, undecided-report}}
 
 -- the register that sends lies where no call writes
 sends-elsewhere :

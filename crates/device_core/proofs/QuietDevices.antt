@@ -1,29 +1,11 @@
 -- A device that made quiet steps alone, and one that is copied.
 use Rattle.std.proofs.Common.{◌≡◌, ◌∙◌, ◌+◌, ◌-◌, ◌≤◌, ℕ, Bool, None, refl, sym, ap, subst, arith}
-use Rattle.bus_signals.specs.declared.access.Access.{Access}
-use Rattle.bus_signals.specs.TraceFlag.{Flag}
+use Rattle.bus_signals.specs.{declared.access.Access.Access, TraceFlag.Flag}
 use Rattle.hmac_core.specs.Hash.{Hash}
 use Rattle.swatt_rom.specs.RomCall.{NoCall}
-use Rattle.device_trace.specs.Logs.{Logs}
-use Rattle.device_trace.specs.Play.{Play}
-use Rattle.device_trace.specs.Progress.{Progress, Held, Runs, InCall}
-use Rattle.device_trace.specs.Start.{Start}
-use Rattle.device_trace.specs.Trace.{last_signals, logs_after}
-use Rattle.device_core.specs.Bus.{BusStandsFor}
-use Rattle.device_core.specs.Device.{HasPlayed, LiveStandsFor, steps_made}
-use Rattle.device_core.specs.Machine.{PlaysAt, call_of, stage_of}
-use Rattle.device_core.specs.Quiet.{AreQuiet, GoesQuietly, HasGoneQuietly}
-use Rattle.device_core.specs.Silence.{with_idle}
-use Rattle.device_core.specs.declared.bus.Bus.{Bus}
-use Rattle.device_core.specs.declared.device.Device.{Device}
-use Rattle.device_core.specs.declared.device.Running.{Running as RunningState}
-use Rattle.device_core.specs.declared.live.Live.{Live}
-use Rattle.device_core.specs.declared.live.Live.TheVariants.{Running}
-use Rattle.device_core.specs.declared.machine.Machine.{Machine}
-use Rattle.device_core.specs.declared.stage.Stage.{Stage}
-use Rattle.device_core.specs.declared.stage.Stage.TheVariants.{Running as RunningStage}
-use Rattle.device_core.proofs.Idle.{length-idle}
-use Rattle.device_core.proofs.Sleep.{no-signals}
+use Rattle.device_trace.specs.{Logs.Logs, Play.Play, Progress.{Progress, Held, Runs, InCall}, Start.Start, Trace.{last_signals, logs_after}}
+use Rattle.device_core.specs.{Bus.BusStandsFor, Device.{HasPlayed, LiveStandsFor, steps_made}, Machine.{PlaysAt, call_of, stage_of}, Quiet.{AreQuiet, GoesQuietly, HasGoneQuietly}, Silence.with_idle, declared.{bus.Bus.Bus, device.{Device.Device, Running.Running as RunningState}, live.Live.{Live, TheVariants.Running}, machine.Machine.Machine, stage.Stage.{Stage, TheVariants.Running as RunningStage}}}
+use Rattle.device_core.proofs.{Idle.length-idle, Sleep.no-signals}
 
 -- a processor that runs is in no call
 pub no-call : (progress : Progress) → RunningStage ≡ stage_of progress → call_of progress ≡ NoCall

@@ -1,13 +1,8 @@
 -- Quiet steps in a row.
 use Rattle.std.proofs.Common.{◌≡◌, ◌∙◌, ◌+◌, ◌∷◌, ℕ, Bool, true, [], ap, add-one}
 use Rattle.bus_signals.specs.declared.access.Access.{Access}
-use Rattle.device_trace.specs.Logs.{flags_of, with_events}
-use Rattle.device_trace.specs.Play.{Play}
-use Rattle.device_trace.specs.Start.{Start}
-use Rattle.device_trace.specs.Step.{next_record}
-use Rattle.device_trace.specs.Trace.{logs_after}
-use Rattle.device_core.specs.Quiet.{AreQuiet, IsQuiet, IsQuietFrom}
-use Rattle.device_core.specs.Silence.{is_silent, with_idle}
+use Rattle.device_trace.specs.{Logs.{flags_of, with_events}, Play.Play, Start.Start, Step.next_record, Trace.logs_after}
+use Rattle.device_core.specs.{Quiet.{AreQuiet, IsQuiet, IsQuietFrom}, Silence.{is_silent, with_idle}}
 use Rattle.device_core.proofs.Idle.{idle-logs}
 
 pub quiet-step :

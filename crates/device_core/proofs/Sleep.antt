@@ -1,46 +1,11 @@
 -- Steps of sleep in a row.
 use Rattle.std.proofs.Common.{◌≡◌, ◌∙◌, ◌<◌, ◌≤◌, ◌∷◌, ℕ, zero, suc, Bool, true, false, map, Option, None, Some, is_some, if◌then◌else◌, refl, sym, ap, subst, arith, List, inl}
-use Rattle.bus_signals.specs.declared.access.Access.{Access}
-use Rattle.bus_signals.specs.declared.bounds.Bounds.{Bounds}
-use Rattle.bus_signals.specs.declared.bus_record.BusRecord.{BusRecord}
-use Rattle.bus_signals.specs.declared.kind.Kind.TheVariants.{Cpu, Idle, Irq, Rom}
-use Rattle.bus_signals.specs.ExecFlag.{last_pc}
-use Rattle.bus_signals.specs.SeenRecord.{SeenRecord}
-use Rattle.bus_signals.specs.TraceFlag.{Flag, IsRecordOf}
-use Rattle.part_definitions.specs.CpuRegister.{Registers, allows_interrupts, pc_of}
-use Rattle.part_definitions.specs.CpuState.{Boundary}
-use Rattle.part_definitions.specs.Dma.{dma_access}
-use Rattle.part_definitions.specs.FirstRule.{first_rule}
-use Rattle.device_trace.specs.Blank.{blank_seen}
-use Rattle.device_trace.specs.Logs.{Logs, aux_of, flags_of, flags_shown, logged_bounds, vector_of, with_record}
-use Rattle.device_trace.specs.Peripherals.{requests}
-use Rattle.bus_signals.specs.declared.signals.Signals.{Signals}
+use Rattle.bus_signals.specs.{declared.{access.Access.Access, bounds.Bounds.Bounds, bus_record.BusRecord.BusRecord, kind.Kind.TheVariants.{Cpu, Idle, Irq, Rom}, signals.Signals.Signals}, ExecFlag.last_pc, SeenRecord.SeenRecord, TraceFlag.{Flag, IsRecordOf}}
+use Rattle.part_definitions.specs.{CpuRegister.{Registers, allows_interrupts, pc_of}, CpuState.Boundary, Dma.dma_access, FirstRule.first_rule, Memory.{MemoryWrite, ShownFlags, byte_at}, Metadata.bounds_in, Interrupt.first_vector}
+use Rattle.device_trace.specs.{Blank.blank_seen, Logs.{Logs, aux_of, flags_of, flags_shown, logged_bounds, vector_of, with_record}, Peripherals.requests, Play.Play, Trace.{last_signals, logs_after}, Progress.{Progress, Runs, boundary_kind, last_registers}, Signals.{signals_at, signals_of, step_kind}, Start.Start, Step.{record_from, record_of}}
 use Rattle.hmac_core.specs.Hash.{Hash}
-use Rattle.device_trace.specs.Play.{Play}
-use Rattle.device_trace.specs.Trace.{last_signals, logs_after}
-use Rattle.device_trace.specs.Progress.{Progress, Runs, boundary_kind, last_registers}
-use Rattle.device_trace.specs.Signals.{signals_at, signals_of, step_kind}
-use Rattle.device_trace.specs.Start.{Start}
-use Rattle.device_trace.specs.Step.{record_from, record_of}
-use Rattle.device_core.specs.Bus.{BusStandsFor, KeepsSignals, LastStandsFor, logs_after_step}
-use Rattle.device_core.specs.FlagsKept.{LeavesFlags}
-use Rattle.part_definitions.specs.Memory.{MemoryWrite, ShownFlags, byte_at}
-use Rattle.part_definitions.specs.Metadata.{bounds_in}
-use Rattle.part_definitions.specs.Interrupt.{first_vector}
-use Rattle.device_core.specs.Machine.{DecisionStandsFor, MachineStandsFor, PlaysAt, ProgressStandsFor, stage_of}
-use Rattle.device_core.specs.Silence.{AreSilent, with_idle}
-use Rattle.device_core.specs.declared.last_step.LastStep.{LastStep}
-use Rattle.device_core.specs.declared.machine.Machine.{Machine}
-use Rattle.device_core.specs.declared.stage.Stage.TheVariants.{Running}
-use Rattle.device_core.specs.Monitors.{MonitorsStandFor}
-use Rattle.device_core.specs.Quiet.{AreQuiet, IsQuietFrom}
-use Rattle.device_core.specs.Sleep.{SleepsAt, Rests, Sleeps, idle_signals, logs_idle, with_idle_steps}
-use Rattle.device_core.specs.declared.bus.Bus.{Bus}
-use Rattle.device_core.proofs.FlagsShown.{flags-kept}
-use Rattle.device_core.proofs.Idle.{idle-logs, silent-unkept}
-use Rattle.device_core.proofs.QuietSteps.{quiet-step}
-use Rattle.device_core.proofs.Steps.{record_of-tried}
-use Rattle.device_core.proofs.Turns.{boundary-step}
+use Rattle.device_core.specs.{Bus.{BusStandsFor, KeepsSignals, LastStandsFor, logs_after_step}, FlagsKept.LeavesFlags, Machine.{DecisionStandsFor, MachineStandsFor, PlaysAt, ProgressStandsFor, stage_of}, Silence.{AreSilent, with_idle}, declared.{last_step.LastStep.LastStep, machine.Machine.Machine, stage.Stage.TheVariants.Running, bus.Bus.Bus}, Monitors.MonitorsStandFor, Quiet.{AreQuiet, IsQuietFrom}, Sleep.{SleepsAt, Rests, Sleeps, idle_signals, logs_idle, with_idle_steps}}
+use Rattle.device_core.proofs.{FlagsShown.flags-kept, Idle.{idle-logs, silent-unkept}, QuietSteps.quiet-step, Steps.record_of-tried, Turns.boundary-step}
 
 -- what it leaves in the logs
 abbrev idle_record : Registers → BusRecord

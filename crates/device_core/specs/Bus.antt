@@ -1,26 +1,10 @@
 -- What the bus stands for, between two steps and within one.
 use Rattle.std.specs.Prelude.{Bool, false, ◌≡◌, ◌&&◌, ℕ, [], ◌∷◌, Option, Some, None, is_some, IfSome}
-use Rattle.bus_signals.specs.declared.access.Access.{Access}
-use Rattle.bus_signals.specs.declared.bus_record.BusRecord.{BusRecord}
-use Rattle.bus_signals.specs.declared.rule.Rule.{Rule}
-use Rattle.bus_signals.specs.declared.signals.Signals.{Signals}
-use Rattle.bus_signals.specs.TraceFlag.{Flag}
-use Rattle.bus_signals.specs.SeenRecord.{SeenHistory, SeenRecord}
-use Rattle.part_definitions.specs.Dma.{dma_access}
+use Rattle.bus_signals.specs.{declared.{access.Access.Access, bus_record.BusRecord.BusRecord, rule.Rule.Rule, signals.Signals.Signals}, TraceFlag.Flag, SeenRecord.{SeenHistory, SeenRecord}}
+use Rattle.part_definitions.specs.{Dma.dma_access, CpuRegister.Registers}
 use Rattle.mem_map.specs.Memory.{MemoryStandsFor}
-use Rattle.part_definitions.specs.CpuRegister.{Registers}
-use Rattle.device_trace.specs.Logs.{Logs, flags_of, vector_of, step_progress, vector_taken, with_record}
-use Rattle.device_trace.specs.Progress.{next_pc_of, last_registers, tells_irq, fetches_opcode}
-use Rattle.device_trace.specs.Signals.{signals_of, step_kind, proposed_access, value_read}
-use Rattle.device_trace.specs.Start.{Start}
-use Rattle.device_trace.specs.Step.{record_of, record_from, dma_value_read}
-use Rattle.device_core.specs.Monitors.{MonitorsStandFor}
-use Rattle.device_core.specs.Peripherals.{PeripheralsStandFor}
-use Rattle.device_core.specs.declared.bus.Bus.{Bus}
-use Rattle.device_core.specs.declared.last_step.LastStep.{LastStep}
-use Rattle.device_core.specs.Refusal.{where_refused}
-use Rattle.device_core.specs.Silence.{has_line}
-use Rattle.device_core.specs.declared.turn.Turn.{Turn}
+use Rattle.device_trace.specs.{Logs.{Logs, flags_of, vector_of, step_progress, vector_taken, with_record}, Progress.{next_pc_of, last_registers, tells_irq, fetches_opcode}, Signals.{signals_of, step_kind, proposed_access, value_read}, Start.Start, Step.{record_of, record_from, dma_value_read}}
+use Rattle.device_core.specs.{Monitors.MonitorsStandFor, Peripherals.PeripheralsStandFor, declared.{bus.Bus.Bus, last_step.LastStep.LastStep, turn.Turn.Turn}, Refusal.where_refused, Silence.has_line}
 
 -- the newest record, with the bounds before it
 abbrev pub last_seen : SeenHistory → Option SeenRecord

@@ -1,28 +1,9 @@
 -- Calm steps: of the processor above the ROM, at which no rule, peripheral or line looks.
 use Rattle.std.specs.Prelude.{◌≡◌, ◌&&◌, ◌||◌, ℕ, Bool, true, false, not, Option, Some, None, map, nat_le, nat_lt}
-use Rattle.bus_signals.specs.declared.access.Access.{Access}
-use Rattle.bus_signals.specs.declared.access.Access.TheVariants.{Fetch, Read, Write}
-use Rattle.bus_signals.specs.declared.kind.Kind.TheVariants.{Cpu}
-use Rattle.bus_signals.specs.declared.region.Region.{Region}
-use Rattle.bus_signals.specs.declared.signals.Signals.{Signals}
-use Rattle.bus_signals.specs.Address.{Address}
-use Rattle.bus_signals.specs.Bounds.{executable_region}
-use Rattle.bus_signals.specs.ExecFlag.{last_pc, ran_inside}
-use Rattle.bus_signals.specs.Kind.{is_cpu}
-use Rattle.bus_signals.specs.Map.{is_within, lies_in, metadata_region, ram_region, rom_region}
-use Rattle.bus_signals.specs.TraceFlag.{Flag}
+use Rattle.bus_signals.specs.{declared.{access.Access.{Access, TheVariants.{Fetch, Read, Write}}, kind.Kind.TheVariants.Cpu, region.Region.Region, signals.Signals.Signals}, Address.Address, Bounds.executable_region, ExecFlag.{last_pc, ran_inside}, Kind.is_cpu, Map.{is_within, lies_in, metadata_region, ram_region, rom_region}, TraceFlag.Flag}
 use Rattle.part_definitions.specs.Dma.{dma_access}
-use Rattle.device_trace.specs.Blank.{blank_seen}
-use Rattle.device_trace.specs.Logs.{Logs, aux_of, logged_bounds}
-use Rattle.device_trace.specs.Signals.{signals_of, value_read}
-use Rattle.device_trace.specs.Start.{Start}
-use Rattle.device_core.specs.Bus.{logs_after_step}
-use Rattle.device_core.specs.FlagsKept.{KeepsFlags, has_flag}
-use Rattle.device_core.specs.Machine.{MachineStandsFor, StandsAfter}
-use Rattle.device_core.specs.Quiet.{IsQuietFrom}
-use Rattle.device_core.specs.declared.machine.Machine.{Machine}
-use Rattle.device_core.specs.declared.stage.Stage.TheVariants.{Running}
-use Rattle.device_core.specs.declared.turn.Turn.{Turn}
+use Rattle.device_trace.specs.{Blank.blank_seen, Logs.{Logs, aux_of, logged_bounds}, Signals.{signals_of, value_read}, Start.Start}
+use Rattle.device_core.specs.{Bus.logs_after_step, FlagsKept.{KeepsFlags, has_flag}, Machine.{MachineStandsFor, StandsAfter}, Quiet.IsQuietFrom, declared.{machine.Machine.Machine, stage.Stage.TheVariants.Running, turn.Turn.Turn}}
 use Rattle.hmac_core.specs.Hash.{Hash}
 
 -- in RAM above the metadata

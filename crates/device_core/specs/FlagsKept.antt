@@ -1,15 +1,7 @@
 -- Steps that leave both flags as they are.
 use Rattle.std.specs.Prelude.{◌≡◌, ◌||◌, ◌∷◌, Bool, Option, map, true}
-use Rattle.bus_signals.specs.declared.bounds.Bounds.{Bounds}
-use Rattle.bus_signals.specs.declared.bus_record.BusRecord.{BusRecord}
-use Rattle.bus_signals.specs.declared.signals.Signals.{Signals}
-use Rattle.bus_signals.specs.Address.{Address}
-use Rattle.bus_signals.specs.TraceFlag.{Flag, IsRecordOf, is_quiet}
-use Rattle.bus_signals.specs.SeenRecord.{SeenHistory, SeenRecord}
-use Rattle.bus_signals.specs.ExecFlag.{exec}
-use Rattle.device_trace.specs.Blank.{blank_seen}
-use Rattle.device_trace.specs.Logs.{Logs, aux_of, logged_bounds}
-use Rattle.device_trace.specs.Start.{Start}
+use Rattle.bus_signals.specs.{declared.{bounds.Bounds.Bounds, bus_record.BusRecord.BusRecord, signals.Signals.Signals}, Address.Address, TraceFlag.{Flag, IsRecordOf, is_quiet}, SeenRecord.{SeenHistory, SeenRecord}, ExecFlag.exec}
+use Rattle.device_trace.specs.{Blank.blank_seen, Logs.{Logs, aux_of, logged_bounds}, Start.Start}
 
 -- one of the flags is set
 abbrev pub has_flag : {G : Type 0} → Flag G → SeenHistory → Bool

@@ -1,22 +1,9 @@
 -- Steps of sleep and calm ones over quiet accesses, without events.
 use Rattle.std.specs.Prelude.{◌≡◌, ◌+◌, ◌-◌, ◌≤◌, ◌⊎◌, ℕ, zero, suc, Bool, true, false, [], ◌∷◌, Option, Some, None}
-use Rattle.bus_signals.specs.declared.access.Access.{Access}
-use Rattle.bus_signals.specs.declared.bus_record.BusRecord.{BusRecord}
-use Rattle.bus_signals.specs.declared.kind.Kind.TheVariants.{Cpu, Idle}
-use Rattle.bus_signals.specs.TraceFlag.{Flag}
+use Rattle.bus_signals.specs.{declared.{access.Access.Access, bus_record.BusRecord.BusRecord, kind.Kind.TheVariants.{Cpu, Idle}}, TraceFlag.Flag}
 use Rattle.hmac_core.specs.Hash.{Hash}
-use Rattle.device_trace.specs.Logs.{Logs, flags_of}
-use Rattle.device_trace.specs.Play.{Play}
-use Rattle.device_trace.specs.Start.{Start}
-use Rattle.device_trace.specs.Step.{next_record, record_of}
-use Rattle.device_trace.specs.Trace.{logs_after}
-use Rattle.device_core.specs.Bus.{logs_after_step}
-use Rattle.device_core.specs.Device.{LiveStandsFor, steps_made}
-use Rattle.device_core.specs.Machine.{PlaysAt}
-use Rattle.device_core.specs.Silence.{is_silent, with_idle}
-use Rattle.device_core.specs.declared.live.Live.{Live}
-use Rattle.device_core.specs.declared.machine.Machine.{Machine}
-use Rattle.device_core.specs.declared.stage.Stage.TheVariants.{Running as RunningStage}
+use Rattle.device_trace.specs.{Logs.{Logs, flags_of}, Play.Play, Start.Start, Step.{next_record, record_of}, Trace.logs_after}
+use Rattle.device_core.specs.{Bus.logs_after_step, Device.{LiveStandsFor, steps_made}, Machine.PlaysAt, Silence.{is_silent, with_idle}, declared.{live.Live.Live, machine.Machine.Machine, stage.Stage.TheVariants.Running as RunningStage}}
 
 -- there is no access, or a quiet one
 abbrev pub all_quiet : (Access → Bool) → Option Access → Bool

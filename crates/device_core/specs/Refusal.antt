@@ -1,10 +1,7 @@
 -- What a refused step was about to do.
 use Rattle.std.specs.Prelude.{Option, Some, None}
-use Rattle.bus_signals.specs.declared.rule.Rule.{Rule}
-use Rattle.bus_signals.specs.declared.signals.Signals.{Signals}
-use Rattle.device_trace.specs.Play.{Play}
-use Rattle.device_trace.specs.Start.{Start}
-use Rattle.device_trace.specs.Trace.{last_signals, trace}
+use Rattle.bus_signals.specs.{declared.{rule.Rule.Rule, signals.Signals.Signals}}
+use Rattle.device_trace.specs.{Play.Play, Start.Start, Trace.{last_signals, trace}}
 use Rattle.device_core.specs.Silence.{last_rule}
 
 -- what a step was about to do, where it broke a rule

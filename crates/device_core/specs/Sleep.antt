@@ -1,29 +1,10 @@
 -- Steps of sleep in a row.
 use Rattle.std.specs.Prelude.{◌≡◌, ℕ, zero, suc, false, map, Some, None}
-use Rattle.bus_signals.specs.declared.bus_record.BusRecord.{BusRecord}
-use Rattle.bus_signals.specs.Address.{Address}
-use Rattle.bus_signals.specs.ExecFlag.{last_pc}
-use Rattle.bus_signals.specs.SeenRecord.{SeenHistory}
-use Rattle.bus_signals.specs.TraceFlag.{Flag, IsRecordOf}
-use Rattle.bus_signals.specs.declared.kind.Kind.TheVariants.{Idle}
-use Rattle.bus_signals.specs.declared.signals.Signals.{Signals}
-use Rattle.part_definitions.specs.CpuRegister.{pc_of}
-use Rattle.part_definitions.specs.Dma.{dma_access}
-use Rattle.part_definitions.specs.FirstRule.{first_rule}
+use Rattle.bus_signals.specs.{declared.{bus_record.BusRecord.BusRecord, kind.Kind.TheVariants.Idle, signals.Signals.Signals, bounds.Bounds.Bounds}, Address.Address, ExecFlag.last_pc, SeenRecord.SeenHistory, TraceFlag.{Flag, IsRecordOf}}
+use Rattle.part_definitions.specs.{CpuRegister.pc_of, Dma.dma_access, FirstRule.first_rule}
 use Rattle.device_peripherals.specs.Ticks.{with_ticks}
-use Rattle.device_trace.specs.Blank.{blank_seen}
-use Rattle.device_trace.specs.Logs.{Logs, aux_of, logged_bounds}
-use Rattle.device_trace.specs.Peripherals.{Peripherals}
-use Rattle.device_trace.specs.Progress.{last_registers}
-use Rattle.device_trace.specs.Signals.{step_kind}
-use Rattle.device_trace.specs.Start.{Start}
-use Rattle.device_core.specs.Bus.{LastStandsFor, logs_after_step}
-use Rattle.device_core.specs.FlagsKept.{LeavesFlags}
-use Rattle.device_core.specs.Machine.{DecisionStandsFor, IsAtBoundary}
-use Rattle.device_core.specs.Monitors.{MonitorsStandFor}
-use Rattle.device_core.specs.declared.bus.Bus.{Bus}
-use Rattle.device_core.specs.declared.monitors.Monitors.{Monitors}
-use Rattle.bus_signals.specs.declared.bounds.Bounds.{Bounds}
+use Rattle.device_trace.specs.{Blank.blank_seen, Logs.{Logs, aux_of, logged_bounds}, Peripherals.Peripherals, Progress.last_registers, Signals.step_kind, Start.Start}
+use Rattle.device_core.specs.{Bus.{LastStandsFor, logs_after_step}, FlagsKept.LeavesFlags, Machine.{DecisionStandsFor, IsAtBoundary}, Monitors.MonitorsStandFor, declared.{bus.Bus.Bus, monitors.Monitors.Monitors}}
 
 -- what a step of sleep at this `pc` is about to do: nothing
 abbrev pub idle_signals : Address → Signals

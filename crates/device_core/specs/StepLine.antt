@@ -1,14 +1,8 @@
 -- What the line of a step tells.
 use Rattle.std.specs.Prelude.{◌≡◌, ℕ, Option, Some, None}
-use Rattle.bus_signals.specs.declared.rule.Rule.{Rule}
-use Rattle.bus_signals.specs.Report.{ReportFields, fields_of}
-use Rattle.device_trace.specs.Play.{Play}
-use Rattle.device_trace.specs.Start.{Start}
-use Rattle.device_trace.specs.Text.{last_byte_sent, last_denial, last_report}
-use Rattle.device_trace.specs.Trace.{trace}
-use Rattle.device_core.specs.Silence.{last_rule}
-use Rattle.device_core.specs.declared.step_line.StepLine.{StepLine}
-use Rattle.device_core.specs.declared.step_line.StepLine.TheVariants.{Sent, Reset, Report, Denied}
+use Rattle.bus_signals.specs.{declared.rule.Rule.Rule, Report.{ReportFields, fields_of}}
+use Rattle.device_trace.specs.{Play.Play, Start.Start, Text.{last_byte_sent, last_denial, last_report}, Trace.trace}
+use Rattle.device_core.specs.{Silence.last_rule, declared.step_line.StepLine.{StepLine, TheVariants.{Sent, Reset, Report, Denied}}}
 
 -- the byte that was sent
 abbrev pub byte_in_line : Option StepLine → Option ℕ

@@ -1,7 +1,6 @@
 ghost use Rattle.std.specs.Prelude.{◌≡◌, ◌==◌, is_some, if◌then◌else◌};
 ghost use Rattle.bus_signals.specs.Map.{ROM_ENTRY};
-ghost use Rattle.part_definitions.specs.CpuRegister.{is_asleep};
-ghost use Rattle.part_definitions.specs.CpuState.{CpuState, registers_of};
+ghost use Rattle.part_definitions.specs.{CpuRegister.is_asleep, CpuState.{CpuState, registers_of}};
 ghost use Rattle.msp_exec.specs.Course.{CpuStandsFor};
 ghost use Rattle.device_trace.specs.Progress.{boundary_kind};
 

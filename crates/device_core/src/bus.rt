@@ -1,25 +1,9 @@
 ghost use Rattle.std.specs.Prelude.{◌≡◌, Bool, ◌<◌, ◌≤◌, ◌∷◌, [], ℕ, true, false, List, Option, IfOk, IfSome, IsSome, None, Some, is_none, map, if◌then◌else◌};
-ghost use Rattle.bus_signals.specs.declared.event.Event.{Event};
-ghost use Rattle.bus_signals.specs.Bounds.{executable_region};
-ghost use Rattle.bus_signals.specs.TraceFlag.{IsRecordOf};
-ghost use Rattle.bus_signals.specs.SeenRecord.{SeenHistory};
-ghost use Rattle.part_definitions.specs.Dma.{dma_access};
-ghost use Rattle.part_definitions.specs.FirstRule.{breaks_i1, first_rule};
-ghost use Rattle.bus_signals.specs.ExecFlag.{exec, last_pc};
-ghost use Rattle.part_definitions.specs.Memory.{PowerOn, ShownFlags, MemoryWrite};
-ghost use Rattle.part_definitions.specs.Part.{Takes};
-ghost use Rattle.mem_map.specs.Memory.{MemoryStandsFor};
-ghost use Rattle.mem_map.specs.Image.{power_on_of};
-ghost use Rattle.part_definitions.specs.CpuRegister.{Registers};
-ghost use Rattle.device_trace.specs.Start.{Start};
-ghost use Rattle.device_trace.specs.Blank.{blank_seen};
-ghost use Rattle.device_trace.specs.Logs.{Logs, aux_of, power_on_logs, goes_on_in_call, logged_bounds, memory_after, with_events, with_record};
-ghost use Rattle.device_trace.specs.Signals.{signals_of, word_fetched, value_read};
-ghost use Rattle.device_trace.specs.Step.{is_reset, asks_reset, record_from};
-ghost use Rattle.device_core.specs.Bus.{TurnStandsFor, logs_after_step};
-ghost use Rattle.device_core.specs.Silence.{has_line};
-ghost use Rattle.device_core.specs.Quiet.{IsQuietFrom};
-ghost use Rattle.device_core.specs.Sleep.{SleepsAt, idle_signals, logs_idle};
+ghost use Rattle.bus_signals.specs.{declared.event.Event.Event, Bounds.executable_region, TraceFlag.IsRecordOf, SeenRecord.SeenHistory, ExecFlag.{exec, last_pc}};
+ghost use Rattle.part_definitions.specs.{Dma.dma_access, FirstRule.{breaks_i1, first_rule}, Memory.{PowerOn, ShownFlags, MemoryWrite}, Part.Takes, CpuRegister.Registers};
+ghost use Rattle.mem_map.specs.{Memory.MemoryStandsFor, Image.power_on_of};
+ghost use Rattle.device_trace.specs.{Start.Start, Blank.blank_seen, Logs.{Logs, aux_of, power_on_logs, goes_on_in_call, logged_bounds, memory_after, with_events, with_record}, Signals.{signals_of, word_fetched, value_read}, Step.{is_reset, asks_reset, record_from}};
+ghost use Rattle.device_core.specs.{Bus.{TurnStandsFor, logs_after_step}, Silence.has_line, Quiet.IsQuietFrom, Sleep.{SleepsAt, idle_signals, logs_idle}};
 
 use crate::access::{value_read, word_fetched};
 use crate::calm::{ABOVE_ROM, is_above_rom, is_calm};
@@ -123,11 +107,7 @@ fn idle_signals(pc: u16) -> Signals
 
 impl<G: TraceFlag> Bus<G> {
     ghost use Rattle.device_trace.specs.Logs.{flags_shown};
-    ghost use Rattle.device_core.specs.Bus.{BusStandsFor, KeepsSignals, AnswersTurn, MakesTurn, Performs, PerformsFrom, record_performed, seen_in};
-    ghost use Rattle.device_core.specs.Calm.{IsCalmRegion, ReadsCalmly};
-    ghost use Rattle.device_core.specs.FlagsKept.{LeavesFlags, KeepsFlags, has_flag};
-    ghost use Rattle.device_core.specs.Monitors.{MonitorsStandFor};
-    ghost use Rattle.device_core.specs.Sleep.{Rests, Sleeps};
+    ghost use Rattle.device_core.specs.{Bus.{BusStandsFor, KeepsSignals, AnswersTurn, MakesTurn, Performs, PerformsFrom, record_performed, seen_in}, Calm.{IsCalmRegion, ReadsCalmly}, FlagsKept.{LeavesFlags, KeepsFlags, has_flag}, Monitors.MonitorsStandFor, Sleep.{Rests, Sleeps}};
 
     /// The bus at power-on. The flag has seen no record.
     #[tactic(auto, unfolding(bus_signals::specs::ExecFlag::exec))]

@@ -1,11 +1,7 @@
 ghost use Rattle.std.specs.Prelude.{◌≡◌};
 ghost use Rattle.word_arith.specs.declared.size.Size.TheVariants.{Byte};
-ghost use Rattle.part_definitions.specs.Pins.{pins_word};
-ghost use Rattle.part_definitions.specs.Timer.{timer_flag};
-ghost use Rattle.device_trace.specs.Logs.{aux_of};
-ghost use Rattle.device_trace.specs.Progress.{last_registers, stands_at_boundary};
-ghost use Rattle.device_trace.specs.Signals.{number_read};
-ghost use Rattle.device_trace.specs.Trace.{logs_after};
+ghost use Rattle.part_definitions.specs.{Pins.pins_word, Timer.timer_flag};
+ghost use Rattle.device_trace.specs.{Logs.aux_of, Progress.{last_registers, stands_at_boundary}, Signals.number_read, Trace.logs_after};
 ghost use Rattle.device_core.specs.Device.{OfLive};
 
 use crate::access::number_read;

@@ -2,11 +2,9 @@
 use Rattle.std.proofs.Common.{◌≡◌, ◌≤◌, ◌<◌, ◌+◌, ◌-◌, ◌∙◌, ◌++◌, ℕ, zero, suc, List, Result, IsErr, ap, sym, subst, arith, append_assoc}
 use Rattle.std.proofs.lemmas.List.{append-nil}
 use Rattle.outside_edge.specs.declared.sink.Sink as sink
-use Rattle.debug_link.specs.Console.{AddsText, HasAdded}
-use Rattle.debug_link.specs.Writing.{PacketSink}
+use Rattle.debug_link.specs.{Console.{AddsText, HasAdded}, Writing.PacketSink}
 use Rattle.debug_link.proofs.AddedText.{PutsPrefix, added_both, added_none, adds_failed_in, prefix_less}
-use Rattle.debug_session.specs.Monitor.{texts_from}
-use Rattle.debug_session.specs.Sight.{StepSight, View}
+use Rattle.debug_session.specs.{Monitor.texts_from, Sight.{StepSight, View}}
 
 module _ (view : View) (text_of : StepSight → List ℕ) where
   -- the text of one step more

@@ -1,9 +1,7 @@
 -- What a call counts that answers, behind others.
 use Rattle.std.proofs.Common.{◌≡◌, ◌≤◌, ℕ, Result, Ok, Err, arith}
 use Rattle.std.specs.Prelude.{IsErrAnd}
-use Rattle.debug_link.specs.Writing.{CountsWriteFaults}
-use Rattle.debug_link.specs.declared.answer_fault.AnswerFault.{AnswerFault}
-use Rattle.debug_link.specs.declared.answer_fault.AnswerFault.TheVariants.{Memory}
+use Rattle.debug_link.specs.{Writing.CountsWriteFaults, declared.answer_fault.AnswerFault.{AnswerFault, TheVariants.Memory}}
 use Rattle.outside_edge.proofs.Counts.{rose_since}
 
 module _ {W : Type 0} (faults : W → ℕ) where

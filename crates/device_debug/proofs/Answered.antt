@@ -6,11 +6,7 @@ use Rattle.outside_edge.specs.Sink.{Takes, TakesPrefix}
 use Rattle.outside_edge.specs.declared.sink.Sink as sink
 use Rattle.outside_edge.proofs.SinkLemmas.{prefix_after, prefix_of_more}
 use Rattle.device_play.proofs.WriteCounts.{nothing-begun}
-use Rattle.debug_link.specs.Conversation.{Answer}
-use Rattle.debug_link.specs.Packet.{packet_of, packets_of}
-use Rattle.debug_link.specs.Writing.{Answers, HasPut, PacketSink}
-use Rattle.debug_link.specs.declared.answer_fault.AnswerFault.{AnswerFault}
-use Rattle.debug_link.specs.declared.connection.Connection.{Connection}
+use Rattle.debug_link.specs.{Conversation.Answer, Packet.{packet_of, packets_of}, Writing.{Answers, HasPut, PacketSink}, declared.{answer_fault.AnswerFault.AnswerFault, connection.Connection.Connection}}
 use Rattle.debug_link.proofs.Bodies.{packets-both, put_both}
 
 module _ {T S W : Type 0} (stands : T → S → Type 0) (w : sink.Ghosts W) where

@@ -5,26 +5,11 @@ use Rattle.std.proofs.lemmas.Option.{same_Some}
 use Rattle.hmac_core.specs.Hash.{Hash}
 use Rattle.outside_edge.specs.Sink.{Takes, TakesPrefix}
 use Rattle.outside_edge.specs.declared.sink.Sink as sink
-use Rattle.debug_link.specs.Conversation.{Answer}
-use Rattle.debug_link.specs.Packet.{packet_of}
-use Rattle.debug_link.specs.Writing.{Answers, PacketSink}
-use Rattle.debug_link.specs.declared.answer_fault.AnswerFault.{AnswerFault}
-use Rattle.debug_link.specs.declared.connection.Connection.{Connection}
-use Rattle.debug_link.specs.declared.connection.Connection.TheVariants.{Closed, Open}
-use Rattle.debug_session.specs.Command.{command_of}
-use Rattle.debug_session.specs.declared.request.Request.{Request}
-use Rattle.debug_session.specs.declared.request.Request.TheVariants.{Until}
+use Rattle.debug_link.specs.{Conversation.Answer, Packet.packet_of, Writing.{Answers, PacketSink}, declared.{answer_fault.AnswerFault.AnswerFault, connection.Connection.{Connection, TheVariants.{Closed, Open}}}}
+use Rattle.debug_session.specs.{Command.command_of, declared.request.Request.{Request, TheVariants.Until}, Place.{Run, view_of}, Session.{Session, after_request, answer_of, closes, reply, says, with_stops}, Stops.Stops}
 use Rattle.debug_link.proofs.Bodies.{put_none}
-use Rattle.debug_session.specs.Place.{Run, view_of}
-use Rattle.debug_session.specs.Session.{Session, after_request, answer_of, closes, reply, says, with_stops}
-use Rattle.debug_session.specs.Stops.{Stops}
-use Rattle.debug_walk.specs.PlayedRun.{played_run}
-use Rattle.debug_walk.specs.Walk.{OfWalk}
-use Rattle.debug_walk.specs.declared.walk.Walk.{Walk}
-use Rattle.device_debug.specs.Going.{StandsAt}
-use Rattle.device_debug.specs.Session.{DebuggerStandsFor, Gives, MayGive, RunSession, StandsInRun, in_run, run_at, run_reply}
-use Rattle.device_debug.specs.declared.debugger.Debugger.{Debugger}
-use Rattle.device_debug.specs.declared.run_debugger.RunDebugger.{RunDebugger}
+use Rattle.debug_walk.specs.{PlayedRun.played_run, Walk.OfWalk, declared.walk.Walk.Walk}
+use Rattle.device_debug.specs.{Going.StandsAt, Session.{DebuggerStandsFor, Gives, MayGive, RunSession, StandsInRun, in_run, run_at, run_reply}, declared.{debugger.Debugger.Debugger, run_debugger.RunDebugger.RunDebugger}}
 use Rattle.device_debug.proofs.Answered.{all-answered, half-answered, half-put, none-answered, one-put}
 
 module _ {D : Type 0} (hash : Hash D) where

@@ -1,24 +1,11 @@
 -- A walk that stands where going back leads.
 use Rattle.std.proofs.Common.{◌≡◌, ◌≤◌, ◌<◌, inl, ℕ, true, Option, Some, None, refl, subst, sym, arith}
 use Rattle.hmac_core.specs.Hash.{Hash}
-use Rattle.debug_session.specs.Request.{most_steps}
-use Rattle.debug_session.specs.Cause.{Step}
-use Rattle.debug_session.specs.Going.{Standing, interrupted, last_stop}
-use Rattle.debug_session.specs.Place.{Run, sight_at, view_of}
-use Rattle.debug_session.specs.Sight.{Sight}
-use Rattle.debug_session.proofs.Scans.{last-none}
-use Rattle.debug_session.proofs.Views.{view-at}
-use Rattle.debug_session.specs.Stops.{Stops}
-use Rattle.debug_session.specs.declared.stop.Stop.{Stop}
-use Rattle.debug_session.specs.declared.stop.Stop.TheVariants.{Begin, Interrupted}
-use Rattle.debug_walk.specs.Copies.{IsAt, IsBegun}
-use Rattle.debug_walk.specs.Walk.{place_of}
-use Rattle.debug_walk.specs.declared.walk.Walk.{Walk}
-use Rattle.device_debug.specs.Back.{IsLastBehind}
-use Rattle.device_debug.specs.Going.{HasArrived, StandsAt}
-use Rattle.device_debug.proofs.Ahead.{at-boundary}
-use Rattle.device_debug.proofs.Back.{NoneBehind, cause_back, found-last, found-none}
-use Rattle.device_debug.proofs.Interrupted.{interrupted-here}
+use Rattle.debug_session.specs.{Request.most_steps, Cause.Step, Going.{Standing, interrupted, last_stop}, Place.{Run, sight_at, view_of}, Sight.Sight, Stops.Stops, declared.stop.Stop.{Stop, TheVariants.{Begin, Interrupted}}}
+use Rattle.debug_session.proofs.{Scans.last-none, Views.view-at}
+use Rattle.debug_walk.specs.{Copies.{IsAt, IsBegun}, Walk.place_of, declared.walk.Walk.Walk}
+use Rattle.device_debug.specs.{Back.IsLastBehind, Going.{HasArrived, StandsAt}}
+use Rattle.device_debug.proofs.{Ahead.at-boundary, Back.{NoneBehind, cause_back, found-last, found-none}, Interrupted.interrupted-here}
 
 module _ {D : Type 0} (hash : Hash D) (run : Run) where
   arrives-first : (now : Standing) (walk : Walk D) → now ≡ record { place = 1; stop = Begin }

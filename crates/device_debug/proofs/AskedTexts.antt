@@ -1,8 +1,7 @@
 -- The texts that a user asks for, as they are put.
 use Rattle.std.proofs.Common.{◌≡◌, ◌∙◌, ◌++◌, List, [], ℕ, Result, IsErr, sym, subst}
 use Rattle.outside_edge.specs.declared.sink.Sink as sink
-use Rattle.debug_link.specs.Console.{HasAdded, console}
-use Rattle.debug_link.specs.Writing.{PacketSink, PutsPackets}
+use Rattle.debug_link.specs.{Console.{HasAdded, console}, Writing.{PacketSink, PutsPackets}}
 use Rattle.debug_link.proofs.AddedText.{PutsPrefix, added_both, prefix_behind, prefix_end, text_finished, texts_failed}
 
 module _ {W : Type 0} (w : sink.Ghosts W) where

@@ -3,30 +3,12 @@ use Rattle.std.proofs.Common.{◌≡◌, ◌≤◌, ◌<◌, ◌+◌, ◌-◌, �
 use Rattle.std.specs.Prelude.{◌&&◌, ◌||◌, IfSome, nat_le, not, if◌then◌else◌}
 use Rattle.std.specs.Option.{option_or}
 use Rattle.std.proofs.lemmas.Bool.{and_right, cases_Bool, cases_lt, cond-true, cond-false, false≢true}
-use Rattle.bus_signals.specs.declared.kind.Kind.{Kind}
-use Rattle.bus_signals.specs.declared.kind.Kind.TheVariants.{Idle}
-use Rattle.bus_signals.specs.declared.rule.Rule.{Rule}
-use Rattle.bus_signals.specs.Kind.{is_boot, is_cpu, is_rom}
+use Rattle.bus_signals.specs.{declared.{kind.Kind.{Kind, TheVariants.Idle}, rule.Rule.Rule}, Kind.{is_boot, is_cpu, is_rom}}
 use Rattle.part_definitions.specs.CpuRegister.{pc_of}
-use Rattle.debug_session.specs.Request.{most_steps}
-use Rattle.debug_session.specs.declared.command.Way.TheVariants.{Ahead, Back}
-use Rattle.debug_session.specs.Stops.{Stops}
-use Rattle.debug_session.specs.Watched.{last_hit}
-use Rattle.debug_session.specs.declared.stop.Stop.{Stop}
-use Rattle.debug_session.specs.declared.watch.Hit.{Hit}
-use Rattle.debug_session.specs.Cause.{Step, ahead, begins_within, behind, boots, cause, hit_on, hits, is_plain, is_within, refusal, refusal_or, steps_over, stop_of}
-use Rattle.debug_session.specs.Going.{Standing, last_stop}
-use Rattle.debug_session.specs.Place.{Run, sight_at, view_of}
-use Rattle.debug_session.specs.Sight.{Sight, View}
-use Rattle.debug_session.proofs.Scans.{last-at, last-none}
-use Rattle.debug_session.proofs.Stretches.{ahead-behind}
-use Rattle.debug_session.proofs.Views.{view-at}
-use Rattle.debug_session.specs.declared.stop.Stop.TheVariants.{Begin}
-use Rattle.debug_walk.specs.Passing.{IsPassed, Sleeps}
-use Rattle.debug_walk.specs.Walk.{IsStretch, first_refused}
-use Rattle.debug_walk.specs.declared.stretch.Stretch.{Stretch}
-use Rattle.device_debug.specs.Back.{IsLastBehind, stop_with_place, seek_back}
-use Rattle.device_debug.specs.Seek.{steps_by}
+use Rattle.debug_session.specs.{Request.most_steps, declared.{command.Way.TheVariants.{Ahead, Back}, stop.Stop.{Stop, TheVariants.Begin}, watch.Hit.Hit}, Stops.Stops, Watched.last_hit, Cause.{Step, ahead, begins_within, behind, boots, cause, hit_on, hits, is_plain, is_within, refusal, refusal_or, steps_over, stop_of}, Going.{Standing, last_stop}, Place.{Run, sight_at, view_of}, Sight.{Sight, View}}
+use Rattle.debug_session.proofs.{Scans.{last-at, last-none}, Stretches.ahead-behind, Views.view-at}
+use Rattle.debug_walk.specs.{Passing.{IsPassed, Sleeps}, Walk.{IsStretch, first_refused}, declared.stretch.Stretch.Stretch}
+use Rattle.device_debug.specs.{Back.{IsLastBehind, stop_with_place, seek_back}, Seek.steps_by}
 
 -- the last place with a cause, of those behind a place and before another one
 module _ (cause : ℕ → Option Stop) (begin : ℕ) where

@@ -3,43 +3,17 @@ use Rattle.std.proofs.Common.{◌≡◌, ◌≤◌, ◌<◌, ◌+◌, ◌-◌, �
 use Rattle.std.specs.Prelude.{◌&&◌, IsErr, codes, length, if◌then◌else◌}
 use Rattle.std.proofs.lemmas.Bool.{cases_Bool, cases_lt, cond-false, cond-true, false≢true}
 use Rattle.std.proofs.lemmas.List.{append-nil}
-use Rattle.bus_signals.specs.declared.kind.Kind.TheVariants.{Idle}
-use Rattle.bus_signals.specs.declared.rule.Rule.{Rule}
+use Rattle.bus_signals.specs.{declared.{kind.Kind.TheVariants.Idle, rule.Rule.Rule}}
 use Rattle.hmac_core.specs.Hash.{Hash}
 use Rattle.outside_edge.specs.declared.sink.Sink as sink
 use Rattle.printed_lines.specs.Line.{reset_line}
-use Rattle.debug_session.specs.Request.{most_steps}
-use Rattle.debug_session.specs.declared.command.Way.TheVariants.{Ahead}
-use Rattle.debug_link.specs.Console.{console}
-use Rattle.debug_link.specs.Writing.{HasPut, PacketSink, PutsPackets}
-use Rattle.debug_link.specs.declared.answer_fault.AnswerFault.{AnswerFault}
+use Rattle.debug_session.specs.{Request.most_steps, declared.{command.Way.TheVariants.Ahead, stop.Stop.{Stop, TheVariants.{End, Interrupted, Refused}}, watch.Hit.Hit}, Cause.{Step, behind, cause, cause_here, hit_on, hits, is_plain, refusal_or, steps_over, stop_of}, Going.{Standing, first_stop, interrupted}, Place.{Run, sight_at, step_sight, view_of}, Session.{lines_to, refused_step, told_lines, refusal_warning}, Sight.{Sight, StepSight, View}, Stops.Stops}
+use Rattle.debug_link.specs.{Console.console, Writing.{HasPut, PacketSink, PutsPackets}, declared.answer_fault.AnswerFault.AnswerFault}
 use Rattle.debug_link.proofs.Bodies.{put_both, put_none, puts_behind, puts_failed, puts_less}
-use Rattle.debug_session.specs.Cause.{Step, behind, cause, cause_here, hit_on, hits, is_plain, refusal_or, steps_over, stop_of}
-use Rattle.debug_session.specs.Going.{Standing, first_stop, interrupted}
-use Rattle.debug_session.specs.Place.{Run, sight_at, step_sight, view_of}
-use Rattle.debug_session.specs.Session.{lines_to, refused_step, told_lines, refusal_warning}
-use Rattle.debug_session.specs.Sight.{Sight, StepSight, View}
-use Rattle.debug_session.proofs.Scans.{first-past}
-use Rattle.debug_session.proofs.Views.{next-at, view-at}
-use Rattle.debug_session.specs.Stops.{Stops}
-use Rattle.debug_session.specs.declared.stop.Stop.{Stop}
-use Rattle.debug_session.specs.declared.stop.Stop.TheVariants.{End, Interrupted, Refused}
-use Rattle.debug_session.specs.declared.watch.Hit.{Hit}
-use Rattle.debug_walk.specs.Copies.{IsAt}
-use Rattle.debug_walk.specs.Passing.{ArePassed, AreSilent, IsSilent}
-use Rattle.debug_walk.specs.Walk.{TellsCause, Walks, place_of}
-use Rattle.debug_walk.specs.declared.walk.Walk.{Walk}
-use Rattle.device_debug.specs.Ahead.{both_of, is_asked, last_boundary, refused_at, seek_ahead}
-use Rattle.device_debug.specs.Going.{GoesOn, HasArrived, StandsAt}
-use Rattle.device_debug.specs.GrownText.{GrownText}
-use Rattle.device_debug.specs.Telling.{TellsStep, bodies_of, step_bodies}
-use Rattle.device_debug.proofs.Ahead.{IsClear, TellsAhead, at-boundary, cause_at, cause_by, none-at, stops-before-refusal, stops-here, stops-nowhere, tells-ahead, told_at}
-use Rattle.device_debug.proofs.Back.{idle-over, plain-none}
-use Rattle.device_debug.proofs.Interrupted.{interrupted-at}
-use Rattle.device_debug.proofs.Kept.{exact-tells}
-use Rattle.device_debug.proofs.RefusalText.{puts-none}
-use Rattle.device_debug.proofs.Unasked.{unasked-none}
-use Rattle.device_debug.proofs.Told.{IsPut, IsTold, put-here, put-step, put-until, told-both, told-first, told-on, told-step}
+use Rattle.debug_session.proofs.{Scans.first-past, Views.{next-at, view-at}}
+use Rattle.debug_walk.specs.{Copies.IsAt, Passing.{ArePassed, AreSilent, IsSilent}, Walk.{TellsCause, Walks, place_of}, declared.walk.Walk.Walk}
+use Rattle.device_debug.specs.{Ahead.{both_of, is_asked, last_boundary, refused_at, seek_ahead}, Going.{GoesOn, HasArrived, StandsAt}, GrownText.GrownText, Telling.{TellsStep, bodies_of, step_bodies}}
+use Rattle.device_debug.proofs.{Ahead.{IsClear, TellsAhead, at-boundary, cause_at, cause_by, none-at, stops-before-refusal, stops-here, stops-nowhere, tells-ahead, told_at}, Back.{idle-over, plain-none}, Interrupted.interrupted-at, Kept.exact-tells, RefusalText.puts-none, Unasked.unasked-none, Told.{IsPut, IsTold, put-here, put-step, put-until, told-both, told-first, told-on, told-step}}
 
 both-parts : (last : Option ℕ) (told : Option Rule) (at : ℕ) (rule : Rule)
     → both_of last told ≡ Some (at, rule) → (last ≡ Some at) × (told ≡ Some rule)

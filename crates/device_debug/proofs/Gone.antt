@@ -3,39 +3,12 @@ use Rattle.std.proofs.Common.{◌≡◌, ◌≤◌, ◌-◌, ◌∙◌, ℕ, Lis
 use Rattle.std.specs.Prelude.{codes}
 use Rattle.hmac_core.specs.Hash.{Hash}
 use Rattle.outside_edge.specs.declared.sink.Sink as sink
-use Rattle.debug_link.specs.Console.{console}
-use Rattle.debug_link.specs.Conversation.{Answer}
-use Rattle.debug_link.specs.Writing.{Answers, PacketSink, PutsPackets}
-use Rattle.debug_link.specs.declared.answer_fault.AnswerFault.{AnswerFault}
-use Rattle.debug_link.specs.declared.connection.Connection.{Connection}
-use Rattle.debug_session.specs.Request.{most_steps}
-use Rattle.debug_session.specs.declared.command.Going.{Going}
-use Rattle.debug_session.specs.declared.command.Way.{Way}
-use Rattle.debug_session.specs.declared.command.Way.TheVariants.{Ahead, Back}
-use Rattle.debug_session.specs.declared.request.Request.{Request}
-use Rattle.debug_session.specs.declared.request.Request.TheVariants.{Until}
-use Rattle.debug_session.specs.Cause.{Step, cause}
-use Rattle.debug_session.specs.Going.{Standing, first_stop, interrupted, last_stop, step_of, where_to}
-use Rattle.debug_session.specs.Monitor.{request_text}
-use Rattle.debug_session.specs.Place.{Run, sight_at, view_of}
-use Rattle.debug_session.specs.Session.{Session, after_request, lines_to, answer_to_request, says, stands_at}
-use Rattle.debug_session.specs.Sight.{Sight}
+use Rattle.debug_link.specs.{Console.console, Conversation.Answer, Writing.{Answers, PacketSink, PutsPackets}, declared.{answer_fault.AnswerFault.AnswerFault, connection.Connection.Connection}}
+use Rattle.debug_session.specs.{Request.most_steps, declared.{command.{Going.Going, Way.{Way, TheVariants.{Ahead, Back}}}, request.Request.{Request, TheVariants.Until}, stop.Stop.Stop}, Cause.{Step, cause}, Going.{Standing, first_stop, interrupted, last_stop, step_of, where_to}, Monitor.request_text, Place.{Run, sight_at, view_of}, Session.{Session, after_request, lines_to, answer_to_request, says, stands_at}, Sight.Sight, StopReply.stop_reply, Stops.Stops}
 use Rattle.debug_session.proofs.Views.{view-at}
-use Rattle.debug_session.specs.StopReply.{stop_reply}
-use Rattle.debug_session.specs.Stops.{Stops}
-use Rattle.debug_session.specs.declared.stop.Stop.{Stop}
-use Rattle.debug_walk.specs.Copies.{TrackStandsFor}
-use Rattle.debug_walk.specs.PlayedRun.{played_run}
-use Rattle.debug_walk.specs.Walk.{OfWalk, Walks, place_of}
-use Rattle.debug_walk.specs.declared.track.Track.{Track}
-use Rattle.debug_walk.specs.declared.walk.Walk.{Walk}
-use Rattle.device_debug.specs.Ahead.{seek_ahead}
-use Rattle.device_debug.specs.Back.{seek_back}
-use Rattle.device_debug.specs.Going.{GoesOn, HasArrived, StandsAt}
-use Rattle.device_debug.specs.Session.{DebuggerStandsFor, Gives, MayGive, run_at, view_in}
-use Rattle.device_debug.specs.declared.debugger.Debugger.{Debugger}
-use Rattle.device_debug.proofs.Answered.{answered-behind, failed-before}
-use Rattle.device_debug.proofs.Answering.{halted-here}
+use Rattle.debug_walk.specs.{Copies.TrackStandsFor, PlayedRun.played_run, Walk.{OfWalk, Walks, place_of}, declared.{track.Track.Track, walk.Walk.Walk}}
+use Rattle.device_debug.specs.{Ahead.seek_ahead, Back.seek_back, Going.{GoesOn, HasArrived, StandsAt}, Session.{DebuggerStandsFor, Gives, MayGive, run_at, view_in}, declared.debugger.Debugger.Debugger}
+use Rattle.device_debug.proofs.{Answered.{answered-behind, failed-before}, Answering.halted-here}
 
 -- no request changes the place
 place-kept : (session : Session) (request : Request)

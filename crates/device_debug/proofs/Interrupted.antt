@@ -3,9 +3,7 @@ use Rattle.std.proofs.Common.{◌≡◌, ◌≤◌, ℕ, Bool, true, false, Some
 use Rattle.std.specs.Prelude.{◌&&◌, ◌||◌, ◌==◌, max, min}
 use Rattle.std.proofs.lemmas.Bool.{cond-true, eq-eqb, le-leb}
 use Rattle.debug_session.proofs.Between.{is-between}
-use Rattle.debug_session.specs.Going.{Standing, interrupted, lies_between}
-use Rattle.debug_session.specs.Sight.{View}
-use Rattle.debug_session.specs.declared.stop.Stop.TheVariants.{Interrupted}
+use Rattle.debug_session.specs.{Going.{Standing, interrupted, lies_between}, Sight.View, declared.stop.Stop.TheVariants.Interrupted}
 
 or-true : (one other : Bool) → other ≡ true → (one || other) ≡ true
 or-true true other is = refl

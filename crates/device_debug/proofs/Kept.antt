@@ -3,14 +3,9 @@ use Rattle.std.proofs.Common.{◌≡◌, ◌<◌, ◌-◌, ◌∙◌, ◌⊎◌,
 use Rattle.std.specs.Prelude.{◌&&◌, ◌||◌, nat_le, not, if◌then◌else◌}
 use Rattle.std.proofs.lemmas.Bool.{cond-true}
 use Rattle.part_definitions.specs.CpuRegister.{pc_of}
-use Rattle.debug_session.specs.declared.command.Way.TheVariants.{Ahead}
-use Rattle.debug_session.specs.Cause.{Step, begins_within, behind, boots, cause_here, hit_on, hits, is_broken_at, is_due, is_plain, is_within, steps_over, stop_of}
-use Rattle.debug_session.specs.Place.{Run, sight_at, view_of}
-use Rattle.debug_session.specs.Sight.{Sight}
+use Rattle.debug_session.specs.{declared.command.Way.TheVariants.Ahead, Cause.{Step, begins_within, behind, boots, cause_here, hit_on, hits, is_broken_at, is_due, is_plain, is_within, steps_over, stop_of}, Place.{Run, sight_at, view_of}, Sight.Sight, Stops.Stops}
 use Rattle.debug_session.proofs.Stretches.{HasBegin, has-begin}
-use Rattle.debug_session.specs.Stops.{Stops}
-use Rattle.debug_walk.specs.Walk.{IsStretch, TellsCause}
-use Rattle.debug_walk.specs.declared.stretch.Stretch.{Stretch}
+use Rattle.debug_walk.specs.{Walk.{IsStretch, TellsCause}, declared.stretch.Stretch.Stretch}
 use Rattle.device_debug.specs.Seek.{steps_by}
 
 begins-before : (run : Run) (place begin : ℕ)

@@ -6,22 +6,11 @@ use Rattle.std.proofs.Math.Nat.{max-le}
 use Rattle.std.proofs.lemmas.Bool.{cases_Bool, cases_lt, cond-false, cond-true, ltb-false, ltb-true}
 use Rattle.hmac_core.specs.Hash.{Hash}
 use Rattle.part_definitions.specs.CpuRegister.{pc_of}
-use Rattle.debug_session.specs.Request.{most_steps}
-use Rattle.debug_session.specs.Stops.{Stops}
-use Rattle.debug_session.specs.declared.stop.Stop.{Stop}
-use Rattle.debug_session.specs.Cause.{Step, behind, is_plain, refusal_or, stop_of}
-use Rattle.debug_session.specs.Place.{Run, sight_at, view_of}
-use Rattle.debug_session.specs.Sight.{Sight}
+use Rattle.debug_session.specs.{Request.most_steps, Stops.Stops, declared.stop.Stop.Stop, Cause.{Step, behind, is_plain, refusal_or, stop_of}, Place.{Run, sight_at, view_of}, Sight.Sight}
 use Rattle.debug_session.proofs.Views.{view-at}
-use Rattle.debug_walk.specs.Copies.{IsBefore, IsBegun}
-use Rattle.debug_walk.specs.Passing.{ArePassed}
-use Rattle.debug_walk.specs.Walk.{IsStretch, TellsCause, Walks, place_of}
-use Rattle.debug_walk.specs.declared.stretch.Stretch.{Stretch}
-use Rattle.debug_walk.specs.declared.walk.Walk.{Walk}
-use Rattle.device_debug.specs.Back.{IsLastBehind, stop_with_place}
-use Rattle.device_debug.specs.Seek.{steps_by}
-use Rattle.device_debug.proofs.Back.{Covers, cause-behind, cause_back, covers-all, covers-here, covers-none, covers-on, early-or, no-boundary, passed-none, plain_at}
-use Rattle.device_debug.proofs.Kept.{exact-tells}
+use Rattle.debug_walk.specs.{Copies.{IsBefore, IsBegun}, Passing.ArePassed, Walk.{IsStretch, TellsCause, Walks, place_of}, declared.{stretch.Stretch.Stretch, walk.Walk.Walk}}
+use Rattle.device_debug.specs.{Back.{IsLastBehind, stop_with_place}, Seek.steps_by}
+use Rattle.device_debug.proofs.{Back.{Covers, cause-behind, cause_back, covers-all, covers-here, covers-none, covers-on, early-or, no-boundary, passed-none, plain_at}, Kept.exact-tells}
 
 module _ {D : Type 0} (hash : Hash D) (run : Run) (stops : Stops) (step : Option Step)
     (from begin last : ℕ)

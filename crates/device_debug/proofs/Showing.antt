@@ -5,19 +5,12 @@ use Rattle.std.proofs.lemmas.Bool.{cond-false, cond-true, eq-eqb, ne_eqb}
 use Rattle.hex.specs.Hex.{encode_lower}
 use Rattle.hmac_core.specs.Hash.{Hash}
 use Rattle.outside_edge.specs.declared.sink.Sink as sink
-use Rattle.debug_link.specs.Writing.{PacketSink}
-use Rattle.debug_link.specs.declared.answer_fault.AnswerFault.{AnswerFault}
-use Rattle.debug_link.specs.declared.connection.Connection.{Connection}
-use Rattle.debug_session.specs.Place.{Run, is_shown, sight_at, view_of}
-use Rattle.debug_session.specs.Session.{Session, says}
-use Rattle.debug_session.specs.Shown.{bytes_or, bytes_shown, memory_body, registers_bytes, registers_shown}
-use Rattle.debug_session.specs.Sight.{Sight}
+use Rattle.debug_link.specs.{Writing.PacketSink, declared.{answer_fault.AnswerFault.AnswerFault, connection.Connection.Connection}}
+use Rattle.debug_session.specs.{Place.{Run, is_shown, sight_at, view_of}, Session.{Session, says}, Shown.{bytes_or, bytes_shown, memory_body, registers_bytes, registers_shown}, Sight.Sight}
 use Rattle.debug_session.proofs.Views.{view-at}
-use Rattle.debug_walk.specs.Walk.{OfWalk}
-use Rattle.debug_walk.specs.declared.walk.Walk.{Walk}
+use Rattle.debug_walk.specs.{Walk.OfWalk, declared.walk.Walk.Walk}
 use Rattle.debug_walk.proofs.ShownBytes.{none-there, some-there}
-use Rattle.device_debug.specs.Session.{DebuggerStandsFor, Gives, run_at, view_in}
-use Rattle.device_debug.specs.declared.debugger.Debugger.{Debugger}
+use Rattle.device_debug.specs.{Session.{DebuggerStandsFor, Gives, run_at, view_in}, declared.debugger.Debugger.Debugger}
 use Rattle.device_debug.proofs.Answering.{holds-here, said-so}
 
 module _ (here : Sight) (first size : ℕ) where

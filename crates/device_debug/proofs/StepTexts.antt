@@ -1,8 +1,6 @@
 -- The text of a step.
 use Rattle.std.proofs.Common.{◌≡◌, ℕ, suc, Some, ap, sym}
-use Rattle.trace_files.specs.LineText.{trace_line}
-use Rattle.trace_files.specs.declared.trace_line.TraceLine.{TraceLine}
-use Rattle.trace_files.specs.TraceText.{last_line}
+use Rattle.trace_files.specs.{LineText.trace_line, declared.trace_line.TraceLine.TraceLine, TraceText.last_line}
 use Rattle.debug_walk.proofs.Views.{some-same}
 use Rattle.debug_session.specs.Place.{Run, logs_at, play_to, step_sight}
 

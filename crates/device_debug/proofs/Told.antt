@@ -3,10 +3,8 @@ use Rattle.std.proofs.Common.{◌≡◌, ◌≤◌, ◌<◌, ◌+◌, ◌-◌, �
 use Rattle.std.proofs.lemmas.Bool.{cases_Bool, cases_lt, false≢true}
 use Rattle.std.proofs.lemmas.List.{append-nil}
 use Rattle.debug_link.specs.Console.{console}
-use Rattle.debug_session.specs.Session.{told_lines}
-use Rattle.debug_session.specs.Sight.{View}
-use Rattle.device_debug.specs.GrownText.{GrownText}
-use Rattle.device_debug.specs.Telling.{bodies_of}
+use Rattle.debug_session.specs.{Session.told_lines, Sight.View}
+use Rattle.device_debug.specs.{GrownText.GrownText, Telling.bodies_of}
 
 module _ (view : View) where
   abbrev pub step_told : ℕ → List (List ℕ)

@@ -7,19 +7,14 @@ use Rattle.std.proofs.lemmas.Result.{on_ok_weaker}
 use Rattle.hmac_core.specs.Hash.{Hash}
 use Rattle.outside_edge.specs.Sink.{TakesPrefix}
 use Rattle.outside_edge.specs.declared.sink.Sink as sink
-use Rattle.device_core.specs.Device.{LiveStandsFor}
-use Rattle.device_core.specs.declared.live.Live.{Live}
+use Rattle.device_core.specs.{Device.LiveStandsFor, declared.live.Live.Live}
 use Rattle.device_trace.specs.Trace.{play_of}
 use Rattle.device_play.proofs.WriteCounts.{nothing-begun}
-use Rattle.debug_link.specs.Console.{console}
-use Rattle.debug_link.specs.Packet.{packets_of}
-use Rattle.debug_link.specs.Writing.{HasPut, PacketSink, PutsPackets}
+use Rattle.debug_link.specs.{Console.console, Packet.packets_of, Writing.{HasPut, PacketSink, PutsPackets}}
 use Rattle.debug_link.proofs.Bodies.{put_both, put_none, puts_behind, puts_failed, puts_less}
 use Rattle.debug_session.specs.Place.{Run, sight_at}
-use Rattle.debug_walk.specs.Walk.{AuxFlag, Walks, place_of, second_flag}
-use Rattle.debug_walk.specs.declared.walk.Walk.{Walk}
-use Rattle.device_debug.specs.GrownText.{GrownText}
-use Rattle.device_debug.specs.Telling.{TellsStep, bodies_of, step_bodies}
+use Rattle.debug_walk.specs.{Walk.{AuxFlag, Walks, place_of, second_flag}, declared.walk.Walk.Walk}
+use Rattle.device_debug.specs.{GrownText.GrownText, Telling.{TellsStep, bodies_of, step_bodies}}
 
 -- the packets of texts, one list behind another
 pub bodies-both : (xs ys : List GrownText) → bodies_of (xs ++ ys) ≡ bodies_of xs ++ bodies_of ys

@@ -5,17 +5,7 @@ use Rattle.std.proofs.lemmas.Bool.{and_parts, and_right, eqb-true, not-false, or
 use Rattle.std.proofs.lemmas.List.{append-nil}
 use Rattle.bus_signals.specs.declared.access.Access.{Access}
 use Rattle.part_definitions.specs.CpuRegister.{pc_of}
-use Rattle.debug_session.specs.Request.{most_steps}
-use Rattle.debug_session.specs.declared.command.Way.TheVariants.{Ahead}
-use Rattle.debug_session.specs.Stops.{Stops, has_breakpoint, is_empty}
-use Rattle.debug_session.specs.Watched.{hits_by, hits_of}
-use Rattle.debug_session.specs.declared.seen_accesses.SeenAccesses.{SeenAccesses}
-use Rattle.debug_session.specs.declared.stop.Stop.{Stop}
-use Rattle.debug_session.specs.declared.watch.Hit.{Hit}
-use Rattle.debug_session.specs.declared.watch.Watch.{Watch}
-use Rattle.debug_session.specs.Cause.{Step, behind, hit_on, hits, is_awake, is_due, is_plain, steps_over, stop_of}
-use Rattle.debug_session.specs.Place.{Run, no_step, sight_at, step_sight, view_of}
-use Rattle.debug_session.specs.Sight.{Sight, StepSight, View}
+use Rattle.debug_session.specs.{Request.most_steps, declared.{command.Way.TheVariants.Ahead, seen_accesses.SeenAccesses.SeenAccesses, stop.Stop.Stop, watch.{Hit.Hit, Watch.Watch}}, Stops.{Stops, has_breakpoint, is_empty}, Watched.{hits_by, hits_of}, Cause.{Step, behind, hit_on, hits, is_awake, is_due, is_plain, steps_over, stop_of}, Place.{Run, no_step, sight_at, step_sight, view_of}, Sight.{Sight, StepSight, View}}
 use Rattle.debug_walk.proofs.Unasked.{empty-list, none-behind, none-of-option}
 use Rattle.device_debug.specs.Ahead.{is_asked}
 use Rattle.device_debug.proofs.Ahead.{cause_by}

@@ -1,11 +1,7 @@
 -- Going forwards.
 use Rattle.std.specs.Prelude.{ℕ, ◌||◌, Bool, zero, suc, not, Option, Some, None, is_some, nat_lt, if◌then◌else◌}
 use Rattle.bus_signals.specs.declared.rule.Rule.{Rule}
-use Rattle.debug_session.specs.Request.{most_steps}
-use Rattle.debug_session.specs.declared.command.Way.TheVariants.{Ahead}
-use Rattle.debug_session.specs.Cause.{Seek, Step, refusal_or}
-use Rattle.debug_session.specs.Sight.{View}
-use Rattle.debug_session.specs.Stops.{Stops, is_empty}
+use Rattle.debug_session.specs.{Request.most_steps, declared.command.Way.TheVariants.Ahead, Cause.{Seek, Step, refusal_or}, Sight.View, Stops.{Stops, is_empty}}
 
 abbrev pub seek_ahead : Option Step → Seek
 seek_ahead step = record { way = Ahead; last = most_steps; step = step }

@@ -1,8 +1,6 @@
 -- Going back by pieces of the way.
 use Rattle.std.specs.Prelude.{◌≡◌, ◌<◌, ◌≤◌, ℕ, Option, Some, None}
-use Rattle.debug_session.specs.declared.command.Way.TheVariants.{Back}
-use Rattle.debug_session.specs.Cause.{Seek, Step}
-use Rattle.debug_session.specs.declared.stop.Stop.{Stop}
+use Rattle.debug_session.specs.{declared.{command.Way.TheVariants.Back, stop.Stop.Stop}, Cause.{Seek, Step}}
 
 abbrev pub seek_back : Option Step → ℕ → Seek
 seek_back step from = record { way = Back; last = from; step = step }

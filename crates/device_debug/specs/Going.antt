@@ -1,16 +1,8 @@
 -- A walk that went to where a debugger stops.
 use Rattle.std.specs.Prelude.{◌≡◌, ◌≤◌, ◌⊎◌, ℕ, Result, IfOk, OnErr, OnOk}
-use Rattle.debug_session.specs.Request.{most_steps}
-use Rattle.debug_link.specs.Packet.{packets_of}
-use Rattle.debug_link.specs.Writing.{HasPut, PacketSink}
-use Rattle.debug_link.specs.declared.answer_fault.AnswerFault.{AnswerFault}
-use Rattle.debug_session.specs.declared.command.Way.TheVariants.{Ahead}
-use Rattle.debug_session.specs.Going.{Standing}
-use Rattle.debug_session.specs.Place.{Run, view_of}
-use Rattle.debug_session.specs.Session.{lines_to}
-use Rattle.debug_session.specs.declared.stop.Stop.{Stop}
-use Rattle.debug_walk.specs.Walk.{IsFresh, Walks, place_of}
-use Rattle.debug_walk.specs.declared.walk.Walk.{Walk}
+use Rattle.debug_session.specs.{Request.most_steps, declared.{command.Way.TheVariants.Ahead, stop.Stop.Stop}, Going.Standing, Place.{Run, view_of}, Session.lines_to}
+use Rattle.debug_link.specs.{Packet.packets_of, Writing.{HasPut, PacketSink}, declared.answer_fault.AnswerFault.AnswerFault}
+use Rattle.debug_walk.specs.{Walk.{IsFresh, Walks, place_of}, declared.walk.Walk.Walk}
 use Rattle.hmac_core.specs.Hash.{Hash}
 use Rattle.outside_edge.specs.Sink.{TakesPrefix}
 use Rattle.outside_edge.specs.declared.sink.Sink as sink

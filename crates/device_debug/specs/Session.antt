@@ -2,19 +2,10 @@
 use Rattle.std.specs.Prelude.{◌≡◌, ℕ, List, Option, Result, Some}
 use Rattle.hmac_core.specs.Hash.{Hash}
 use Rattle.outside_edge.specs.declared.sink.Sink as sink
-use Rattle.debug_link.specs.Conversation.{Answer}
-use Rattle.debug_link.specs.Writing.{Answers, PacketSink}
-use Rattle.debug_link.specs.declared.answer_fault.AnswerFault.{AnswerFault}
-use Rattle.debug_link.specs.declared.connection.Connection.{Connection}
-use Rattle.debug_session.specs.Place.{Run, view_of}
-use Rattle.debug_session.specs.Session.{Session, reply}
-use Rattle.debug_session.specs.Sight.{View}
-use Rattle.debug_walk.specs.Copies.{TrackStandsFor}
-use Rattle.debug_walk.specs.PlayedRun.{played_run}
-use Rattle.debug_walk.specs.declared.walk.Walk.{Walk}
-use Rattle.device_debug.specs.Going.{StandsAt}
-use Rattle.device_debug.specs.declared.debugger.Debugger.{Debugger}
-use Rattle.device_debug.specs.declared.run_debugger.RunDebugger.{RunDebugger}
+use Rattle.debug_link.specs.{Conversation.Answer, Writing.{Answers, PacketSink}, declared.{answer_fault.AnswerFault.AnswerFault, connection.Connection.Connection}}
+use Rattle.debug_session.specs.{Place.{Run, view_of}, Session.{Session, reply}, Sight.View}
+use Rattle.debug_walk.specs.{Copies.TrackStandsFor, PlayedRun.played_run, declared.walk.Walk.Walk}
+use Rattle.device_debug.specs.{Going.StandsAt, declared.{debugger.Debugger.Debugger, run_debugger.RunDebugger.RunDebugger}}
 
 -- the run that it goes through
 abbrev pub run_at : {D : Type 0} → Hash D → Debugger D → Run

@@ -2,9 +2,7 @@
 use Rattle.std.specs.Prelude.{◌≡◌, ◌++◌, ℕ, suc, true, false, List, [], ◌∷◌, Result, OnErr, OnOk}
 use Rattle.outside_edge.specs.Sink.{TakesPrefix}
 use Rattle.outside_edge.specs.declared.sink.Sink as sink
-use Rattle.debug_link.specs.Console.{console}
-use Rattle.debug_link.specs.Packet.{packets_of}
-use Rattle.debug_link.specs.Writing.{HasPut, PacketSink}
+use Rattle.debug_link.specs.{Console.console, Packet.packets_of, Writing.{HasPut, PacketSink}}
 use Rattle.debug_session.specs.Place.{Run, sight_at, step_sight}
 use Rattle.device_debug.specs.GrownText.{GrownText}
 

@@ -1,16 +1,9 @@
 ghost use Rattle.std.specs.Prelude.{◌≡◌, ◌≤◌, ◌<◌, ◌-◌, ◌⊎◌, ℕ, IfOk, None, Option, false, length, max, nat_lt, true, if◌then◌else◌};
 ghost use Rattle.std.specs.Option.{option_or};
-ghost use Rattle.debug_session.specs.Request.{most_steps};
-ghost use Rattle.debug_session.specs.Cause.{behind, cause, is_due, is_plain, refusal_or, stop_of};
-ghost use Rattle.debug_session.specs.Going.{interrupted, last_stop};
-ghost use Rattle.debug_session.specs.Place.{Run, sight_at, view_of};
-ghost use Rattle.debug_walk.specs.Copies.{IsBefore, IsBegun, TrackStandsFor};
-ghost use Rattle.debug_walk.specs.Passing.{ArePassed};
-ghost use Rattle.debug_walk.specs.Walk.{IsStretch, OfWalk, TellsCause, Walks, place_of};
+ghost use Rattle.debug_session.specs.{Request.most_steps, Cause.{behind, cause, is_due, is_plain, refusal_or, stop_of}, Going.{interrupted, last_stop}, Place.{Run, sight_at, view_of}};
+ghost use Rattle.debug_walk.specs.{Copies.{IsBefore, IsBegun, TrackStandsFor}, Passing.ArePassed, Walk.{IsStretch, OfWalk, TellsCause, Walks, place_of}};
 ghost use Rattle.device_core.specs.Device.{HasStepped};
-ghost use Rattle.device_debug.specs.Going.{HasArrived, StandsAt};
-ghost use Rattle.device_debug.specs.Seek.{step_in, steps_by};
-ghost use Rattle.device_debug.specs.Back.{IsLastBehind, stop_with_place, seek_back};
+ghost use Rattle.device_debug.specs.{Going.{HasArrived, StandsAt}, Seek.{step_in, steps_by}, Back.{IsLastBehind, stop_with_place, seek_back}};
 ghost use Rattle.part_definitions.specs.CpuRegister.{pc_of};
 
 use crate::interrupts::Interrupts;

@@ -1,14 +1,8 @@
 ghost use Rattle.std.specs.Prelude.{◌≡◌, ◌≤◌, [], None, Some, codes, IfErr, IfOk, length};
-ghost use Rattle.debug_link.specs.Conversation.{LONGEST_BODY};
-ghost use Rattle.debug_link.specs.Writing.{Answers, CountsWriteFaults};
-ghost use Rattle.debug_link.specs.declared.answer_fault.AnswerFault.TheVariants.{Memory};
-ghost use Rattle.debug_session.specs.Going.{Standing};
-ghost use Rattle.debug_session.specs.Session.{Session, after_request, answer_of, first_session, goes, answer_to_request, says, stands_at, until_of, with_stops};
-ghost use Rattle.debug_session.specs.Shown.{memory_body, registers_shown};
-ghost use Rattle.debug_session.specs.Stops.{with_change};
+ghost use Rattle.debug_link.specs.{Conversation.LONGEST_BODY, Writing.{Answers, CountsWriteFaults}, declared.answer_fault.AnswerFault.TheVariants.Memory};
+ghost use Rattle.debug_session.specs.{Going.Standing, Session.{Session, after_request, answer_of, first_session, goes, answer_to_request, says, stands_at, until_of, with_stops}, Shown.{memory_body, registers_shown}, Stops.with_change};
 ghost use Rattle.debug_walk.specs.Copies.{TrackStandsFor};
-ghost use Rattle.device_debug.specs.Going.{HasArrived};
-ghost use Rattle.device_debug.specs.Session.{DebuggerStandsFor, Gives, MayGive, run_at, view_in};
+ghost use Rattle.device_debug.specs.{Going.HasArrived, Session.{DebuggerStandsFor, Gives, MayGive, run_at, view_in}};
 
 use crate::backwards::go_back;
 use crate::forwards::go_forwards;

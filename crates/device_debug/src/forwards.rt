@@ -1,17 +1,9 @@
 ghost use Rattle.std.specs.Prelude.{◌≡◌, ◌<◌, ◌≤◌, ◌⊎◌, ◌++◌, ◌-◌, ◌+◌, ℕ, [], Option, codes, IfOk, None, false, is_some, suc, true, if◌then◌else◌};
-ghost use Rattle.debug_session.specs.Request.{most_steps};
-ghost use Rattle.debug_link.specs.Console.{console};
-ghost use Rattle.debug_link.specs.Writing.{CountsWriteFaults, PutsPackets};
-ghost use Rattle.debug_session.specs.Cause.{cause, refusal_or, told_rule};
-ghost use Rattle.debug_session.specs.Going.{first_stop, interrupted};
-ghost use Rattle.debug_session.specs.Place.{Run, sight_at, view_of};
-ghost use Rattle.debug_walk.specs.Copies.{TrackStandsFor};
-ghost use Rattle.debug_walk.specs.Walk.{OfWalk, TellsCause, Walks, place_of};
-ghost use Rattle.debug_walk.specs.Passing.{ArePassed, AreSilent};
+ghost use Rattle.debug_session.specs.{Request.most_steps, Cause.{cause, refusal_or, told_rule}, Going.{first_stop, interrupted}, Place.{Run, sight_at, view_of}};
+ghost use Rattle.debug_link.specs.{Console.console, Writing.{CountsWriteFaults, PutsPackets}};
+ghost use Rattle.debug_walk.specs.{Copies.TrackStandsFor, Walk.{OfWalk, TellsCause, Walks, place_of}, Passing.{ArePassed, AreSilent}};
 ghost use Rattle.device_core.specs.Device.{HasStepped};
-ghost use Rattle.device_debug.specs.Going.{GoesOn, StandsAt};
-ghost use Rattle.device_debug.specs.Ahead.{is_asked, last_boundary, place_past, refused_at, seek_ahead};
-ghost use Rattle.device_debug.specs.Seek.{step_in};
+ghost use Rattle.device_debug.specs.{Going.{GoesOn, StandsAt}, Ahead.{is_asked, last_boundary, place_past, refused_at, seek_ahead}, Seek.step_in};
 ghost use Rattle.printed_lines.specs.Line.{reset_line};
 
 use crate::grown_text::{GrownText, memory_result};

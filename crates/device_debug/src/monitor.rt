@@ -1,16 +1,7 @@
 ghost use Rattle.std.specs.Prelude.{◌≡◌, ◌≤◌, ◌-◌, ◌++◌, IfErr, IfOk};
-ghost use Rattle.debug_session.specs.Request.{most_steps};
-ghost use Rattle.debug_session.specs.declared.request.Request.TheVariants.{Steps};
-ghost use Rattle.debug_link.specs.Console.{AddsText, console};
-ghost use Rattle.debug_link.specs.Writing.{CountsWriteFaults, PutsPackets};
-ghost use Rattle.debug_link.specs.declared.answer_fault.AnswerFault.TheVariants.{Memory};
-ghost use Rattle.debug_session.specs.Monitor.{flags_text, request_text};
-ghost use Rattle.debug_session.specs.Place.{Run, sight_at, view_of};
-ghost use Rattle.debug_session.specs.Sight.{View};
-ghost use Rattle.debug_walk.specs.Copies.{TrackStandsFor};
-ghost use Rattle.debug_walk.specs.PlayedRun.{played_run};
-ghost use Rattle.debug_walk.specs.Walk.{OfWalk, Walks, place_of};
-ghost use Rattle.debug_session.specs.Monitor.{texts_from};
+ghost use Rattle.debug_session.specs.{Request.most_steps, declared.request.Request.TheVariants.Steps, Monitor.{flags_text, request_text, texts_from}, Place.{Run, sight_at, view_of}, Sight.View};
+ghost use Rattle.debug_link.specs.{Console.{AddsText, console}, Writing.{CountsWriteFaults, PutsPackets}, declared.answer_fault.AnswerFault.TheVariants.Memory};
+ghost use Rattle.debug_walk.specs.{Copies.TrackStandsFor, PlayedRun.played_run, Walk.{OfWalk, Walks, place_of}};
 ghost use Rattle.device_debug.specs.StepText.{text_in};
 
 use crate::grown_text::{GrownText, memory_result};

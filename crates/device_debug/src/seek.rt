@@ -1,8 +1,5 @@
 ghost use Rattle.std.specs.Prelude.{◌≡◌, [], is_some};
-ghost use Rattle.debug_session.specs.declared.command.Way.TheVariants.{Ahead};
-ghost use Rattle.debug_session.specs.Cause.{behind, cause_here, stop_of};
-ghost use Rattle.debug_session.specs.Going.{step_of};
-ghost use Rattle.debug_session.specs.Place.{sight_at, view_of};
+ghost use Rattle.debug_session.specs.{declared.command.Way.TheVariants.Ahead, Cause.{behind, cause_here, stop_of}, Going.step_of, Place.{sight_at, view_of}};
 ghost use Rattle.debug_walk.specs.Walk.{OfWalk, TellsCause};
 ghost use Rattle.device_debug.specs.Seek.{step_in, steps_by};
 

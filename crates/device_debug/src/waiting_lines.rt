@@ -1,7 +1,5 @@
 ghost use Rattle.std.specs.Prelude.{◌≡◌, ◌==◌, ◌<◌, ◌-◌, ◌++◌, [], IfErr, OnOk, length};
-ghost use Rattle.debug_link.specs.Console.{console};
-ghost use Rattle.debug_link.specs.Writing.{CountsWriteFaults, PutsPackets};
-ghost use Rattle.debug_link.specs.declared.answer_fault.AnswerFault.TheVariants.{Memory};
+ghost use Rattle.debug_link.specs.{Console.console, Writing.{CountsWriteFaults, PutsPackets}, declared.answer_fault.AnswerFault.TheVariants.Memory};
 ghost use Rattle.debug_walk.specs.Walk.{OfWalk, place_of};
 ghost use Rattle.device_debug.specs.Telling.{TellsStep, bodies_of};
 

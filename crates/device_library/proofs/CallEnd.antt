@@ -2,15 +2,9 @@
 use Rattle.std.proofs.Common.{rules, ◌≡◌, [], ℕ, Bool, true, false, List, Option, Some, None, inl, inr, ap, subst, sym}
 use Rattle.outside_edge.specs.Shelf.{SureShelf}
 use Rattle.outside_edge.proofs.Counts.{never_rises}
-use Rattle.input_files.specs.declared.status.Status.{Status}
-use Rattle.input_files.specs.declared.status.Status.TheVariants.{Done, Rejected, ReadFault, WriteFault, Memory}
-use Rattle.input_files.specs.Reading.{Files, first_refusal}
-use Rattle.device_cli.specs.Answer.{Answers, Follows, HasOutcome, PutsAll}
-use Rattle.device_cli.specs.Row.{Row}
-use Rattle.device_cli.specs.Run.{IsRun}
-use Rattle.device_library.specs.Call.{IsAnswer, IsCall}
-use Rattle.device_library.specs.KeptText.{KeptBytes}
-use Rattle.device_library.specs.Shown.{IsTold, Shows, ShowsFirst}
+use Rattle.input_files.specs.{declared.status.Status.{Status, TheVariants.{Done, Rejected, ReadFault, WriteFault, Memory}}, Reading.{Files, first_refusal}}
+use Rattle.device_cli.specs.{Answer.{Answers, Follows, HasOutcome, PutsAll}, Row.Row, Run.IsRun}
+use Rattle.device_library.specs.{Call.{IsAnswer, IsCall}, KeptText.KeptBytes, Shown.{IsTold, Shows, ShowsFirst}}
 
 abbrev kept_is : KeptBytes → List ℕ → Type 0
 kept_is text bytes = bytes ≡ text.held

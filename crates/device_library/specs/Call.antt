@@ -1,10 +1,7 @@
 -- What a call of the library is given, and what it gives back.
 use Rattle.std.specs.Prelude.{◌≡◌, ◌⊎◌, ℕ, true, false, List, [], ◌∷◌, codes, Option, Some, None}
-use Rattle.input_files.specs.Reading.{first_refusal}
-use Rattle.input_files.specs.declared.status.Status.{Status}
-use Rattle.input_files.specs.declared.status.Status.TheVariants.{Done, Rejected, Words, WriteFault, Memory}
-use Rattle.device_cli.specs.Answer.{HasOutcome}
-use Rattle.device_cli.specs.Row.{Row}
+use Rattle.input_files.specs.{Reading.first_refusal, declared.status.Status.{Status, TheVariants.{Done, Rejected, Words, WriteFault, Memory}}}
+use Rattle.device_cli.specs.{Answer.HasOutcome, Row.Row}
 use Rattle.device_library.specs.Shown.{Shows, ShowsFirst}
 
 -- the files of a call, each under the name that the words have for it

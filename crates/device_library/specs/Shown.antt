@@ -1,7 +1,6 @@
 -- A text in a piece of memory, with a number beside it, and what is answered of it.
 use Rattle.std.specs.Prelude.{◌≡◌, ◌<◌, ◌≤◌, ◌⊎◌, ℕ, List, length, take}
-use Rattle.input_files.specs.declared.status.Status.{Status}
-use Rattle.input_files.specs.declared.status.Status.TheVariants.{Done, Rejected, WriteFault, Memory}
+use Rattle.input_files.specs.{declared.status.Status.{Status, TheVariants.{Done, Rejected, WriteFault, Memory}}}
 
 -- the piece begins with this text, which has so many bytes
 abbrev pub Shows : List ℕ → List ℕ → ℕ → Type 0

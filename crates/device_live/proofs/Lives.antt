@@ -4,23 +4,12 @@ use Rattle.std.specs.Prelude.{nat_lt, suc}
 use Rattle.std.proofs.lemmas.Bool.{cases_Bool}
 use Rattle.std.proofs.lemmas.Bool.Decides.{nat_tests}
 use Rattle.std.proofs.lemmas.List.{append-nil}
-use Rattle.bus_signals.specs.Address.{Bytes}
-use Rattle.bus_signals.specs.declared.event.Event.{Event}
-use Rattle.play_script.specs.Grammar.{ScriptSoFar, timed_events, with_entry}
-use Rattle.play_script.specs.Script.{TimedEvent, events_of}
-use Rattle.text_scan.specs.Reader.{◌>>=◌}
-use Rattle.text_scan.specs.Word.{is_passed_over, words_of}
-use Rattle.text_scan.specs.declared.fault_kind.FaultKind.{FaultKind}
-use Rattle.device_trace.specs.Play.{Play}
-use Rattle.device_trace.specs.Start.{Start}
+use Rattle.bus_signals.specs.{Address.Bytes, declared.event.Event.Event}
+use Rattle.play_script.specs.{Grammar.{ScriptSoFar, timed_events, with_entry}, Script.{TimedEvent, events_of}}
+use Rattle.text_scan.specs.{Reader.◌>>=◌, Word.{is_passed_over, words_of}, declared.fault_kind.FaultKind.FaultKind}
+use Rattle.device_trace.specs.{Play.Play, Start.Start, Text.lines_of, Trace.play_of}
 use Rattle.source_server.specs.HeldLine.{short_line}
-use Rattle.device_trace.specs.Text.{lines_of}
-use Rattle.device_trace.specs.Trace.{play_of}
-use Rattle.device_live.specs.Answer.{Answer, answer_of, or_refusal, silent_answer, tells}
-use Rattle.device_live.specs.Conversation.{answer_to, talk_of}
-use Rattle.device_live.specs.Laws.{IsCutAnywhere, TellsItsPlay}
-use Rattle.device_live.specs.Life.{Life, events_in, lines_since, play_lived, with_happening, with_script, with_steps}
-use Rattle.device_live.specs.LiveLine.{LiveLine, Happens, Run, Registers, Memory, live_line_of}
+use Rattle.device_live.specs.{Answer.{Answer, answer_of, or_refusal, silent_answer, tells}, Conversation.{answer_to, talk_of}, Laws.{IsCutAnywhere, TellsItsPlay}, Life.{Life, events_in, lines_since, play_lived, with_happening, with_script, with_steps}, LiveLine.{LiveLine, Happens, Run, Registers, Memory, live_line_of}}
 use Rattle.device_live.proofs.ToldPlay.{events-behind, lines-on, same-play, since-between}
 
 -- an answer tells what lies between the play of a life and that of the life behind it

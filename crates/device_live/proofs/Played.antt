@@ -1,26 +1,16 @@
 -- A life that is played on, and what is put of its steps.
 use Rattle.std.proofs.Common.{◌≡◌, ◌≤◌, ◌<◌, ◌+◌, ◌-◌, ◌∙◌, ◌++◌, ◌∷◌, [], ℕ, zero, suc, false, List, Result, Ok, Err, IsErr, refl, ap, sym, arith, append-nil}
 use Rattle.std.proofs.lemmas.Bool.{false≢true}
-use Rattle.bus_signals.specs.Address.{Bytes}
-use Rattle.bus_signals.specs.TraceFlag.{Flag}
-use Rattle.bus_signals.specs.declared.event.Event.{Event}
+use Rattle.bus_signals.specs.{Address.Bytes, TraceFlag.Flag, declared.event.Event.Event}
 use Rattle.hmac_core.specs.Hash.{Hash}
 use Rattle.outside_edge.specs.Sink.{Takes, TakesPrefix}
 use Rattle.outside_edge.proofs.SinkLemmas.{prefix_after, prefix_of_more, takes_both}
-use Rattle.device_trace.specs.Start.{Start}
-use Rattle.device_trace.specs.Text.{lines_of_step}
-use Rattle.device_trace.specs.Trace.{play_of}
-use Rattle.play_script.specs.Playback.{events_left}
-use Rattle.play_script.specs.declared.playback.Playback.{Playback}
-use Rattle.device_core.specs.Device.{LiveStandsFor, steps_made}
-use Rattle.device_core.specs.declared.live.Live.{Live}
-use Rattle.device_play.specs.Account.{IsPassed}
-use Rattle.device_play.specs.Midway.{HasGoneOn, IsMidway}
-use Rattle.device_play.proofs.GoesOn.{lines-go_on}
-use Rattle.device_play.proofs.IdlePlay.{length-play_of}
-use Rattle.device_play.proofs.WatchedPlay.{at-count}
-use Rattle.device_live.specs.Life.{Life, events_in, lines_since, play_lived}
-use Rattle.device_live.specs.Living.{PlaysOn}
+use Rattle.device_trace.specs.{Start.Start, Text.lines_of_step, Trace.play_of}
+use Rattle.play_script.specs.{Playback.events_left, declared.playback.Playback.Playback}
+use Rattle.device_core.specs.{Device.{LiveStandsFor, steps_made}, declared.live.Live.Live}
+use Rattle.device_play.specs.{Account.IsPassed, Midway.{HasGoneOn, IsMidway}}
+use Rattle.device_play.proofs.{GoesOn.lines-go_on, IdlePlay.length-play_of, WatchedPlay.at-count}
+use Rattle.device_live.specs.{Life.{Life, events_in, lines_since, play_lived}, Living.PlaysOn}
 use Rattle.device_live.proofs.ToldPlay.{since-between}
 
 -- steps that are passed have no lines

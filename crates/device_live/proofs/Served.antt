@@ -4,37 +4,16 @@ use Rattle.std.specs.Prelude.{codes, nat_eq}
 use Rattle.std.specs.Str.Lines.{strip_carriage_return}
 use Rattle.std.specs.declared.alloc.AllocError.{AllocError}
 use Rattle.std.proofs.lemmas.Bool.{cases_Bool}
-use Rattle.bus_signals.specs.Address.{Bytes}
-use Rattle.bus_signals.specs.TraceFlag.{Flag}
+use Rattle.bus_signals.specs.{Address.Bytes, TraceFlag.Flag}
 use Rattle.hmac_core.specs.Hash.{Hash}
-use Rattle.outside_edge.specs.Buffer.{Buffer, BufferStandsFor}
-use Rattle.outside_edge.specs.Count.{Rose}
-use Rattle.outside_edge.specs.Sink.{CountsFaults, Puts, Takes, TakesPrefix}
-use Rattle.outside_edge.specs.declared.sink.Failed.{Failed}
+use Rattle.outside_edge.specs.{Buffer.{Buffer, BufferStandsFor}, Count.Rose, Sink.{CountsFaults, Puts, Takes, TakesPrefix}, declared.sink.Failed.Failed}
 use Rattle.outside_edge.specs.declared.sink.Sink as sink
 use Rattle.outside_edge.specs.declared.source.Source as source
-use Rattle.outside_edge.proofs.Counts.{rose_since}
-use Rattle.outside_edge.proofs.SinkLemmas.{prefix_after, prefix_of_more, takes_both}
-use Rattle.source_server.specs.HeldLine.{short_line}
-use Rattle.source_server.specs.LineCut.{LineCut, all_lines, cut_of, no_lines, whole_lines, with_byte, with_bytes, with_last}
-use Rattle.source_server.specs.Lines.{StopsAmong, promise_of, within}
-use Rattle.source_server.specs.Responder.{Moment, Promise}
-use Rattle.source_server.specs.Serving.{EndsSo, Serves, StopsSo}
-use Rattle.source_server.specs.Taken.{IsAtEnd, joined_pieces, most_input}
-use Rattle.source_server.specs.declared.halt.Halt.{Halt}
-use Rattle.source_server.specs.declared.halt.Halt.TheVariants.{Write, Own}
-use Rattle.source_server.specs.declared.lines.Lines.{Lines}
-use Rattle.source_server.specs.declared.served.Served.{Served}
+use Rattle.outside_edge.proofs.{Counts.rose_since, SinkLemmas.{prefix_after, prefix_of_more, takes_both}}
+use Rattle.source_server.specs.{HeldLine.short_line, LineCut.{LineCut, all_lines, cut_of, no_lines, whole_lines, with_byte, with_bytes, with_last}, Lines.{StopsAmong, promise_of, within}, Responder.{Moment, Promise}, Serving.{EndsSo, Serves, StopsSo}, Taken.{IsAtEnd, joined_pieces, most_input}, declared.{halt.Halt.{Halt, TheVariants.{Write, Own}}, lines.Lines.Lines, served.Served.Served}}
 use Rattle.source_server.specs.declared.served.Served.TheVariants as served
 use Rattle.device_trace.specs.Start.{Start}
-use Rattle.device_live.specs.Answer.{or_refusal, standing_line}
-use Rattle.device_live.specs.Conversation.{answer_to, conversation, talk_of}
-use Rattle.device_live.specs.Faults.{end_with}
-use Rattle.device_live.specs.Life.{Life, at_power_on}
-use Rattle.device_live.specs.Living.{LivingStandsFor}
-use Rattle.device_live.specs.Responding.{AreFew, HasTold, LiveStart, StopsTold, live_promise}
-use Rattle.device_live.specs.Serving.{StopsBefore, StopsLife, life_promise}
-use Rattle.device_live.specs.declared.living.Living.{Living}
+use Rattle.device_live.specs.{Answer.{or_refusal, standing_line}, Conversation.{answer_to, conversation, talk_of}, Faults.end_with, Life.{Life, at_power_on}, Living.LivingStandsFor, Responding.{AreFew, HasTold, LiveStart, StopsTold, live_promise}, Serving.{StopsBefore, StopsLife, life_promise}, declared.living.Living.Living}
 
 -- bytes have no more lines than bytes
 byte-lines : (cut : LineCut) (byte : ℕ)

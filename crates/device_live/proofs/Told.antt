@@ -3,29 +3,14 @@ use Rattle.std.proofs.Common.{◌≡◌, ◌≤◌, ◌<◌, ◌+◌, ◌++◌, 
 use Rattle.std.specs.Prelude.{OnOk}
 use Rattle.std.proofs.Math.Seq.{take-length}
 use Rattle.std.specs.declared.alloc.AllocError.{AllocError}
-use Rattle.bus_signals.specs.Address.{Bytes}
-use Rattle.bus_signals.specs.TraceFlag.{Flag}
+use Rattle.bus_signals.specs.{Address.Bytes, TraceFlag.Flag}
 use Rattle.hmac_core.specs.Hash.{Hash}
-use Rattle.outside_edge.specs.Buffer.{Buffer, BufferStandsFor}
-use Rattle.outside_edge.specs.Count.{Rose}
-use Rattle.outside_edge.specs.Sink.{CountsFaults, Takes, TakesPrefix}
-use Rattle.outside_edge.specs.declared.sink.Failed.{Failed}
+use Rattle.outside_edge.specs.{Buffer.{Buffer, BufferStandsFor}, Count.Rose, Sink.{CountsFaults, Takes, TakesPrefix}, declared.sink.Failed.Failed}
 use Rattle.outside_edge.specs.declared.sink.Sink as sink
-use Rattle.outside_edge.proofs.Counts.{rose_since}
-use Rattle.outside_edge.proofs.SinkLemmas.{prefix_after, takes_both}
-use Rattle.source_server.specs.HeldLine.{short_line}
-use Rattle.source_server.specs.LineResponder.{Settles, Tells}
-use Rattle.source_server.specs.Responder.{Moment}
-use Rattle.source_server.specs.declared.halt.Halt.{Halt}
-use Rattle.source_server.specs.declared.halt.Halt.TheVariants.{Write, Own}
+use Rattle.outside_edge.proofs.{Counts.rose_since, SinkLemmas.{prefix_after, takes_both}}
+use Rattle.source_server.specs.{HeldLine.short_line, LineResponder.{Settles, Tells}, Responder.Moment, declared.halt.Halt.{Halt, TheVariants.{Write, Own}}}
 use Rattle.device_trace.specs.Start.{Start}
-use Rattle.device_live.specs.Answer.{Answer, or_refusal}
-use Rattle.device_live.specs.Conversation.{Talk, answer_to, talk_of}
-use Rattle.device_live.specs.Faults.{halt_of}
-use Rattle.device_live.specs.Life.{Life}
-use Rattle.device_live.specs.Living.{AnswersNumbered, LivingStandsFor}
-use Rattle.device_live.specs.Responding.{AreFew, HasTold, LiveStart, StopsTold, buffer_sink, live_promise}
-use Rattle.device_live.specs.declared.living.Living.{Living}
+use Rattle.device_live.specs.{Answer.{Answer, or_refusal}, Conversation.{Talk, answer_to, talk_of}, Faults.halt_of, Life.Life, Living.{AnswersNumbered, LivingStandsFor}, Responding.{AreFew, HasTold, LiveStart, StopsTold, buffer_sink, live_promise}, declared.living.Living.Living}
 
 -- all of a text is a prefix of it
 pub whole-prefix : {S : Type 0} (stands : S → Bytes → Type 0) (old new : S) (text : Bytes)

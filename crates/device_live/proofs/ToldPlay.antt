@@ -4,14 +4,10 @@ use Rattle.std.specs.List.{filter}
 use Rattle.std.specs.Prelude.{nat_eq}
 use Rattle.std.proofs.lemmas.List.{append-nil, map-append}
 use Rattle.std.proofs.lemmas.List.Elements.{filter-append}
-use Rattle.bus_signals.specs.Address.{Bytes}
-use Rattle.bus_signals.specs.declared.event.Event.{Event}
-use Rattle.play_script.specs.Grammar.{timed_events}
-use Rattle.play_script.specs.Script.{TimedEvent, events_of}
+use Rattle.bus_signals.specs.{Address.Bytes, declared.event.Event.Event}
+use Rattle.play_script.specs.{Grammar.timed_events, Script.{TimedEvent, events_of}}
 use Rattle.play_script.proofs.Steps.{events_of-other}
-use Rattle.device_trace.specs.Start.{Start}
-use Rattle.device_trace.specs.Text.{lines_of, lines_of_step}
-use Rattle.device_trace.specs.Trace.{play_of}
+use Rattle.device_trace.specs.{Start.Start, Text.{lines_of, lines_of_step}, Trace.play_of}
 use Rattle.device_live.specs.Life.{lines_since}
 
 -- the lines of a play, and those of so many steps behind it, are those of the longer play

@@ -3,18 +3,10 @@ use Rattle.std.specs.Prelude.{ℕ, ◌-◌, [], ◌∷◌, Result, Ok, Err, code
 use Rattle.std.specs.Fmt.{decimal}
 use Rattle.bus_signals.specs.Address.{Bytes}
 use Rattle.printed_lines.specs.Line.{line_of, place_line}
-use Rattle.text_scan.specs.declared.fault_kind.FaultKind.{FaultKind}
-use Rattle.text_scan.specs.FaultName.{fault_name}
-use Rattle.text_scan.specs.Reader.{◌>>=◌}
-use Rattle.device_trace.specs.Logs.{exec_of}
-use Rattle.device_trace.specs.Progress.{last_registers, next_pc_of}
-use Rattle.device_trace.specs.Start.{Start}
-use Rattle.device_trace.specs.Trace.{logs_after}
-use Rattle.debug_session.specs.Place.{Run as PlayedRun, sight_at}
-use Rattle.debug_session.specs.Shown.{bytes_shown}
-use Rattle.device_live.specs.Life.{Life, events_in, lines_since, play_lived, with_happening, with_steps}
-use Rattle.device_live.specs.LiveLine.{LiveLine, Happens, Run, Registers, Memory}
-use Rattle.device_live.specs.Shown.{memory_text, registers_text}
+use Rattle.text_scan.specs.{declared.fault_kind.FaultKind.FaultKind, FaultName.fault_name, Reader.◌>>=◌}
+use Rattle.device_trace.specs.{Logs.exec_of, Progress.{last_registers, next_pc_of}, Start.Start, Trace.logs_after}
+use Rattle.debug_session.specs.{Place.{Run as PlayedRun, sight_at}, Shown.bytes_shown}
+use Rattle.device_live.specs.{Life.{Life, events_in, lines_since, play_lived, with_happening, with_steps}, LiveLine.{LiveLine, Happens, Run, Registers, Memory}, Shown.{memory_text, registers_text}}
 
 -- the life behind a line, what `play` prints of the steps that were made for it, and its answer
 pub record Answer : Type 0 where

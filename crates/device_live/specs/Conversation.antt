@@ -1,15 +1,10 @@
 -- A device that lives, and whoever tells it lines: what is put, line by line.
 use Rattle.std.specs.Prelude.{ℕ, ◌++◌, suc, List, [], ◌∷◌, length, codes, Option, Some, None, Result, Ok, Err, if◌then◌else◌}
 use Rattle.bus_signals.specs.Address.{Bytes}
-use Rattle.text_scan.specs.declared.fault_kind.FaultKind.{FaultKind}
-use Rattle.text_scan.specs.declared.fault_kind.FaultKind.TheVariants.{TooLong}
-use Rattle.text_scan.specs.Reader.{◌>>=◌}
-use Rattle.text_scan.specs.Word.{is_passed_over, words_of}
+use Rattle.text_scan.specs.{declared.fault_kind.FaultKind.{FaultKind, TheVariants.TooLong}, Reader.◌>>=◌, Word.{is_passed_over, words_of}}
 use Rattle.source_server.specs.HeldLine.{short_line}
 use Rattle.device_trace.specs.Start.{Start}
-use Rattle.device_live.specs.Answer.{Answer, answer_of, or_refusal, silent_answer, standing_line}
-use Rattle.device_live.specs.Life.{Life, at_power_on}
-use Rattle.device_live.specs.LiveLine.{live_line_of}
+use Rattle.device_live.specs.{Answer.{Answer, answer_of, or_refusal, silent_answer, standing_line}, Life.{Life, at_power_on}, LiveLine.live_line_of}
 
 -- the life behind lines, what `play` prints of its steps, and all that was put
 pub record Talk : Type 0 where

@@ -2,14 +2,10 @@
 use Rattle.std.specs.Prelude.{Result, Ok, Err}
 use Rattle.std.specs.declared.alloc.AllocError.{AllocError}
 use Rattle.outside_edge.specs.declared.sink.Failed.{Failed}
-use Rattle.source_server.specs.declared.halt.Halt.{Halt}
-use Rattle.source_server.specs.declared.halt.Halt.TheVariants.{Write}
-use Rattle.source_server.specs.declared.served.Served.{Served}
-use Rattle.source_server.specs.declared.served.Served.TheVariants.{WriteFault}
+use Rattle.source_server.specs.{declared.{halt.Halt.{Halt, TheVariants.Write}, served.Served.{Served, TheVariants.WriteFault}}}
 use Rattle.text_scan.specs.declared.word_fault.WordFault.{WordFault}
 use Rattle.text_scan.specs.declared.word_fault.WordFault.TheVariants as words
-use Rattle.device_live.specs.declared.line_fault.LineFault.{LineFault}
-use Rattle.device_live.specs.declared.line_fault.LineFault.TheVariants.{Kind, Memory}
+use Rattle.device_live.specs.{declared.line_fault.LineFault.{LineFault, TheVariants.{Kind, Memory}}}
 
 -- of a line's words, to its answer
 abbrev pub fault_of : WordFault → LineFault

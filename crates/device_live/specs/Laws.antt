@@ -1,10 +1,7 @@
 -- What holds of every conversation with a device that lives.
 use Rattle.std.specs.Prelude.{◌≡◌, ◌++◌, ℕ, List, Ok}
-use Rattle.device_trace.specs.Start.{Start}
-use Rattle.device_trace.specs.Text.{lines_of}
-use Rattle.device_live.specs.Answer.{tells}
-use Rattle.device_live.specs.Conversation.{talk_of}
-use Rattle.device_live.specs.Life.{Life, play_lived, with_steps}
+use Rattle.device_trace.specs.{Start.Start, Text.lines_of}
+use Rattle.device_live.specs.{Answer.tells, Conversation.talk_of, Life.{Life, play_lived, with_steps}}
 
 -- what is told of the steps is what `play` prints of the lines that were taken, up to the last step
 abbrev pub TellsItsPlay : Type 0

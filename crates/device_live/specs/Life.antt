@@ -1,15 +1,9 @@
 -- What a device that lives has behind it: what it was told, and the steps that it made.
 use Rattle.std.specs.Prelude.{ℕ, zero, suc, ◌+◌, ◌++◌, List, [], Result, Ok, Err, nat_lt, if◌then◌else◌}
-use Rattle.bus_signals.specs.Address.{Bytes}
-use Rattle.bus_signals.specs.declared.event.Event.{Event}
-use Rattle.play_script.specs.Grammar.{ScriptSoFar, no_lines, with_entry}
-use Rattle.play_script.specs.Script.{TimedEvent, events_of}
-use Rattle.text_scan.specs.declared.fault_kind.FaultKind.{FaultKind}
-use Rattle.text_scan.specs.declared.fault_kind.FaultKind.TheVariants.{Order}
-use Rattle.device_trace.specs.Play.{Play}
-use Rattle.device_trace.specs.Start.{Start}
-use Rattle.device_trace.specs.Text.{lines_of_step}
-use Rattle.device_trace.specs.Trace.{play_of}
+use Rattle.bus_signals.specs.{Address.Bytes, declared.event.Event.Event}
+use Rattle.play_script.specs.{Grammar.{ScriptSoFar, no_lines, with_entry}, Script.{TimedEvent, events_of}}
+use Rattle.text_scan.specs.{declared.fault_kind.FaultKind.{FaultKind, TheVariants.Order}}
+use Rattle.device_trace.specs.{Play.Play, Start.Start, Text.lines_of_step, Trace.play_of}
 
 pub record Life : Type 0 where
   -- the lines of a script that were taken, of which some may speak of steps to come

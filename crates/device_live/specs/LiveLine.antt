@@ -3,12 +3,7 @@ use Rattle.std.specs.Prelude.{ℕ, List, [], ◌∷◌, Result, Ok, Err, codes, 
 use Rattle.std.specs.Str.{bytes_eq}
 use Rattle.bus_signals.specs.declared.event.Event.{Event}
 use Rattle.play_script.specs.Grammar.{happening_of}
-use Rattle.text_scan.specs.declared.fault_kind.FaultKind.{FaultKind}
-use Rattle.text_scan.specs.declared.fault_kind.FaultKind.TheVariants.{Word}
-use Rattle.text_scan.specs.Decimal.{decimal_of, long_decimal_of}
-use Rattle.text_scan.specs.Hexadecimal.{hex_word_of}
-use Rattle.text_scan.specs.Reader.{◌>>=◌}
-use Rattle.text_scan.specs.Word.{end_of, next_word}
+use Rattle.text_scan.specs.{declared.fault_kind.FaultKind.{FaultKind, TheVariants.Word}, Decimal.{decimal_of, long_decimal_of}, Hexadecimal.hex_word_of, Reader.◌>>=◌, Word.{end_of, next_word}}
 
 pub data LiveLine : Type 0 where
   -- these events come in this step

@@ -1,31 +1,19 @@
 -- A device that lives as the code has it, and what a call answers of a line.
 use Rattle.std.specs.Prelude.{◌≡◌, ◌≤◌, ◌-◌, ◌++◌, ℕ, List, Some, Result, Ok, Err}
-use Rattle.bus_signals.specs.Address.{Bytes}
-use Rattle.bus_signals.specs.declared.event.Event.{Event}
-use Rattle.bus_signals.specs.TraceFlag.{Flag}
+use Rattle.bus_signals.specs.{Address.Bytes, declared.event.Event.Event, TraceFlag.Flag}
 use Rattle.hmac_core.specs.Hash.{Hash}
 use Rattle.std.specs.declared.alloc.AllocError.{AllocError}
-use Rattle.outside_edge.specs.Count.{Rose}
-use Rattle.outside_edge.specs.Sink.{Takes, TakesPrefix}
+use Rattle.outside_edge.specs.{Count.Rose, Sink.{Takes, TakesPrefix}}
 use Rattle.outside_edge.specs.declared.sink.Sink as sink
-use Rattle.play_script.specs.Happening.{events_in as events_said}
-use Rattle.play_script.specs.Script.{TimedEvent, events_of}
-use Rattle.text_scan.specs.declared.fault_kind.FaultKind.{FaultKind}
-use Rattle.text_scan.specs.declared.word_fault.WordFault.{WordFault}
+use Rattle.play_script.specs.{Happening.events_in as events_said, Script.{TimedEvent, events_of}}
+use Rattle.text_scan.specs.{declared.{fault_kind.FaultKind.FaultKind, word_fault.WordFault.WordFault}}
 use Rattle.text_scan.specs.declared.word_fault.WordFault.TheVariants as words
-use Rattle.source_server.specs.declared.halt.Halt.{Halt}
-use Rattle.source_server.specs.declared.halt.Halt.TheVariants.{Write, Own}
+use Rattle.source_server.specs.{declared.halt.Halt.{Halt, TheVariants.{Write, Own}}}
 use Rattle.device_trace.specs.Start.{Start}
-use Rattle.device_core.specs.Device.{LiveStandsFor}
-use Rattle.device_core.specs.declared.live.Live.{Live}
-use Rattle.device_live.specs.declared.line_fault.LineFault.{LineFault}
+use Rattle.device_core.specs.{Device.LiveStandsFor, declared.live.Live.Live}
+use Rattle.device_live.specs.{declared.{line_fault.LineFault.LineFault, live_line.LiveLine.LiveLine as ReadLine, living.Living.Living}, Answer.{Answer, or_refusal}, Life.{Life, events_in, lines_since, play_lived, with_happening}, LiveLine.{LiveLine, Happens, Run, Registers, Memory, MOST_SHOWN, MOST_STEPS}}
 use Rattle.device_live.specs.declared.line_fault.LineFault.TheVariants as fault
-use Rattle.device_live.specs.declared.live_line.LiveLine.{LiveLine as ReadLine}
 use Rattle.device_live.specs.declared.live_line.LiveLine.TheVariants as read
-use Rattle.device_live.specs.declared.living.Living.{Living}
-use Rattle.device_live.specs.Answer.{Answer, or_refusal}
-use Rattle.device_live.specs.Life.{Life, events_in, lines_since, play_lived, with_happening}
-use Rattle.device_live.specs.LiveLine.{LiveLine, Happens, Run, Registers, Memory, MOST_SHOWN, MOST_STEPS}
 
 -- what was read of a line says this
 abbrev pub line_in : ReadLine → LiveLine

@@ -3,19 +3,11 @@ use Rattle.std.specs.Prelude.{◌≡◌, ◌≤◌, ℕ, List, [], ◌∷◌, le
 use Rattle.std.specs.declared.alloc.AllocError.{AllocError}
 use Rattle.bus_signals.specs.TraceFlag.{Flag}
 use Rattle.hmac_core.specs.Hash.{Hash}
-use Rattle.outside_edge.specs.Buffer.{Buffer, BufferStandsFor}
-use Rattle.outside_edge.specs.Count.{Rose}
-use Rattle.outside_edge.specs.Sink.{Takes, TakesPrefix}
+use Rattle.outside_edge.specs.{Buffer.{Buffer, BufferStandsFor}, Count.Rose, Sink.{Takes, TakesPrefix}}
 use Rattle.outside_edge.specs.declared.sink.Sink as sink
-use Rattle.source_server.specs.LineResponder.{LinePromise}
-use Rattle.source_server.specs.Responder.{Moment}
-use Rattle.source_server.specs.Taken.{most_input}
-use Rattle.source_server.specs.declared.halt.Halt.{Halt}
-use Rattle.source_server.specs.declared.halt.Halt.TheVariants.{Write, Own}
+use Rattle.source_server.specs.{LineResponder.LinePromise, Responder.Moment, Taken.most_input, declared.halt.Halt.{Halt, TheVariants.{Write, Own}}}
 use Rattle.device_trace.specs.Start.{Start}
-use Rattle.device_live.specs.declared.living.Living.{Living}
-use Rattle.device_live.specs.Conversation.{talk_of}
-use Rattle.device_live.specs.Living.{LivingStandsFor}
+use Rattle.device_live.specs.{declared.living.Living.Living, Conversation.talk_of, Living.LivingStandsFor}
 
 -- what it is powered on with, and the buffer before its first answer
 pub record LiveStart (W : Type 0) : Type 0 where

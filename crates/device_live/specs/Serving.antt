@@ -1,13 +1,9 @@
 -- What is put into a sink of the lines that a source gives to a device that lives.
 use Rattle.std.specs.Prelude.{◌≡◌, ◌++◌, ℕ, List, [], ◌∷◌}
 use Rattle.std.specs.declared.alloc.AllocError.{AllocError}
-use Rattle.outside_edge.specs.Count.{Rose}
-use Rattle.outside_edge.specs.Sink.{Takes, TakesPrefix}
+use Rattle.outside_edge.specs.{Count.Rose, Sink.{Takes, TakesPrefix}}
 use Rattle.outside_edge.specs.declared.sink.Sink as sink
-use Rattle.source_server.specs.LineCut.{all_lines, whole_lines}
-use Rattle.source_server.specs.Responder.{Promise}
-use Rattle.source_server.specs.declared.halt.Halt.{Halt}
-use Rattle.source_server.specs.declared.halt.Halt.TheVariants.{Write, Own}
+use Rattle.source_server.specs.{LineCut.{all_lines, whole_lines}, Responder.Promise, declared.halt.Halt.{Halt, TheVariants.{Write, Own}}}
 use Rattle.device_trace.specs.Start.{Start}
 use Rattle.device_live.specs.Conversation.{conversation, talk_of}
 

@@ -1,6 +1,5 @@
 ghost use Rattle.std.specs.Prelude.{◌≡◌};
-ghost use Rattle.device_live.specs.declared.line_fault.LineFault.TheVariants.{Write};
-ghost use Rattle.device_live.specs.Faults.{fault_of};
+ghost use Rattle.device_live.specs.{declared.line_fault.LineFault.TheVariants.Write, Faults.fault_of};
 
 use outside_edge::Failed;
 use std::alloc::AllocError;

@@ -1,8 +1,6 @@
 ghost use Rattle.std.specs.Prelude.{◌≡◌, ◌≤◌, Ok, Err, IfOk, IfErr};
-ghost use Rattle.text_scan.specs.Reader.{ReadsOn, ReadsWord, ReadsWordOn, value_as};
-ghost use Rattle.text_scan.specs.Word.{words_of};
-ghost use Rattle.device_live.specs.LiveLine.{happens_of, line_by_keyword, live_line_of, memory_of, run_of};
-ghost use Rattle.device_live.specs.Living.{IsWithin, line_in};
+ghost use Rattle.text_scan.specs.{Reader.{ReadsOn, ReadsWord, ReadsWordOn, value_as}, Word.words_of};
+ghost use Rattle.device_live.specs.{LiveLine.{happens_of, line_by_keyword, live_line_of, memory_of, run_of}, Living.{IsWithin, line_in}};
 
 use play_script::{Happening, read_happening};
 use std::alloc::Global;

@@ -4,10 +4,7 @@ ghost use Rattle.play_script.specs.Happening.{events_in};
 ghost use Rattle.text_scan.specs.Word.{words_of};
 ghost use Rattle.device_trace.specs.Start.{Start};
 ghost use Rattle.device_core.specs.Device.{HeldStandsFor};
-ghost use Rattle.device_live.specs.Answer.{answer_of, memory_line, registers_line, standing_line};
-ghost use Rattle.device_live.specs.Conversation.{answer_to_words};
-ghost use Rattle.device_live.specs.Life.{Life, at_power_on};
-ghost use Rattle.device_live.specs.LiveLine.{Run, MOST_SHOWN, MOST_STEPS};
+ghost use Rattle.device_live.specs.{Answer.{answer_of, memory_line, registers_line, standing_line}, Conversation.answer_to_words, Life.{Life, at_power_on}, LiveLine.{Run, MOST_SHOWN, MOST_STEPS}};
 
 use crate::line_fault::LineFault;
 use crate::live_line::{LiveLine, read_live_line};

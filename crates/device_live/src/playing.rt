@@ -2,8 +2,7 @@ ghost use Rattle.std.specs.Prelude.{◌≡◌, ◌≤◌, ◌^◌};
 ghost use Rattle.outside_edge.specs.Sink.{CountsFaults};
 ghost use Rattle.device_trace.specs.Start.{Start};
 ghost use Rattle.device_core.specs.Device.{LiveStandsFor};
-ghost use Rattle.device_live.specs.Life.{Life, play_lived};
-ghost use Rattle.device_live.specs.Living.{KeepsToCome, PlaysOn};
+ghost use Rattle.device_live.specs.{Life.{Life, play_lived}, Living.{KeepsToCome, PlaysOn}};
 
 use bus_signals::TraceFlag;
 use device_core::Live;

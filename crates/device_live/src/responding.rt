@@ -1,10 +1,7 @@
 ghost use Rattle.std.specs.Prelude.{◌≡◌, ◌≤◌, ◌<◌, ◌+◌, option_map};
 ghost use Rattle.outside_edge.specs.Sink.{CountsFaults, Puts};
 ghost use Rattle.device_trace.specs.Start.{Start};
-ghost use Rattle.device_live.specs.Answer.{refusal_line};
-ghost use Rattle.device_live.specs.Conversation.{answer_to};
-ghost use Rattle.device_live.specs.Faults.{halt_of};
-ghost use Rattle.device_live.specs.Life.{Life};
+ghost use Rattle.device_live.specs.{Answer.refusal_line, Conversation.answer_to, Faults.halt_of, Life.Life};
 
 use crate::line_fault::LineFault;
 use crate::living::Living;

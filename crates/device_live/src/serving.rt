@@ -1,14 +1,9 @@
 ghost use Rattle.std.specs.Prelude.{◌≡◌, ◌≤◌, [], Some, Ok, codes};
 ghost use Rattle.outside_edge.specs.Sink.{CountsFaults, Puts};
-ghost use Rattle.source_server.specs.declared.served.Served.TheVariants.{Done};
-ghost use Rattle.source_server.specs.Serving.{Serves};
+ghost use Rattle.source_server.specs.{declared.served.Served.TheVariants.Done, Serving.Serves};
 ghost use Rattle.device_trace.specs.Start.{Start};
 ghost use Rattle.device_core.specs.Device.{HeldStandsFor};
-ghost use Rattle.device_live.specs.Answer.{standing_line};
-ghost use Rattle.device_live.specs.Faults.{end_with};
-ghost use Rattle.device_live.specs.Life.{Life};
-ghost use Rattle.device_live.specs.Living.{LivingStandsFor};
-ghost use Rattle.device_live.specs.Serving.{life_promise};
+ghost use Rattle.device_live.specs.{Answer.standing_line, Faults.end_with, Life.Life, Living.LivingStandsFor, Serving.life_promise};
 
 use crate::living::Living;
 use bus_signals::TraceFlag;

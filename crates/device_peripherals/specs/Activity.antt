@@ -1,9 +1,7 @@
 -- Which transfers an activity stands for.
 use Rattle.std.specs.Prelude.{◌≡◌, ◌+◌, ◌/◌, ◌%◌, false, length}
 use Rattle.part_definitions.specs.Dma.{Transfer, is_active, place_of_word, latch}
-use Rattle.device_peripherals.specs.declared.activity.Job.{Job}
-use Rattle.device_peripherals.specs.declared.activity.Activity.{Activity}
-use Rattle.device_peripherals.specs.declared.activity.Activity.TheVariants.{Idle, Reads, Writes}
+use Rattle.device_peripherals.specs.{declared.activity.{Job.Job, Activity.{Activity, TheVariants.{Idle, Reads, Writes}}}}
 
 -- the job is what is left of the transfer, from its next word to be written on
 pub record IsRestOf (job : Job) (transfer : Transfer) : Type 0 where

@@ -1,9 +1,7 @@
 -- Which events the DMA engine stands for.
 use Rattle.std.specs.Prelude.{List}
-use Rattle.device_peripherals.specs.Register.{HoldsWrites}
+use Rattle.device_peripherals.specs.{Register.HoldsWrites, Activity.ActivityStandsFor, declared.dma.Dma.Dma}
 use Rattle.part_definitions.specs.Dma.{DmaEvent, DMA_SOURCE, DMA_DESTINATION, DMA_LENGTH, dma_writes, transfer_of}
-use Rattle.device_peripherals.specs.Activity.{ActivityStandsFor}
-use Rattle.device_peripherals.specs.declared.dma.Dma.{Dma}
 
 -- the engine is as these events, newest first, left it
 pub record DmaStandsFor (dma : Dma) (events : List DmaEvent) : Type 0 where

@@ -1,8 +1,7 @@
 -- Which events the serial port stands for.
 use Rattle.std.specs.Prelude.{◌≡◌, List}
-use Rattle.device_peripherals.specs.Register.{HoldsWrites}
+use Rattle.device_peripherals.specs.{Register.HoldsWrites, declared.serial.Serial.Serial}
 use Rattle.part_definitions.specs.Serial.{SerialEvent, SERIAL_CONTROL, QUEUE_LENGTH, serial_writes, waiting_bytes, has_dropped}
-use Rattle.device_peripherals.specs.declared.serial.Serial.{Serial}
 
 -- the port is as these events, newest first, left it
 pub record SerialStandsFor (port : Serial) (events : List SerialEvent) : Type 0 where

@@ -1,8 +1,7 @@
 -- Which events the timer stands for.
 use Rattle.std.specs.Prelude.{◌≡◌, ◌==◌, List}
-use Rattle.device_peripherals.specs.Register.{HoldsWrites}
+use Rattle.device_peripherals.specs.{Register.HoldsWrites, declared.timer.Timer.Timer}
 use Rattle.part_definitions.specs.Timer.{TimerEvent, TIMER_CONTROL, TIMER_COMPARE, timer_writes, timer_count, timer_flag, steps_of_count}
-use Rattle.device_peripherals.specs.declared.timer.Timer.{Timer}
 
 -- the timer is as these events, newest first, left it
 pub record TimerStandsFor (timer : Timer) (events : List TimerEvent) : Type 0 where

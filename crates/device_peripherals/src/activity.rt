@@ -1,7 +1,6 @@
 ghost use Rattle.std.specs.Prelude.{◌≡◌, ◌%◌, ◌<◌, IfSome};
 ghost use Rattle.bus_signals.specs.Access.{IsFormed};
-ghost use Rattle.part_definitions.specs.Dma.{new_transfer, transfer_access, is_active, after_start, after_access};
-ghost use Rattle.part_definitions.specs.Part.{Answers, Becomes};
+ghost use Rattle.part_definitions.specs.{Dma.{new_transfer, transfer_access, is_active, after_start, after_access}, Part.{Answers, Becomes}};
 
 use bus_signals::{Access, even};
 use word_arith::Size;

@@ -1,7 +1,6 @@
 ghost use Rattle.std.specs.Prelude.{◌≡◌, false, [], ◌∷◌, List, IfSome};
 ghost use Rattle.bus_signals.specs.Access.{IsFormed};
-ghost use Rattle.part_definitions.specs.Part.{Takes, Answers};
-ghost use Rattle.part_definitions.specs.Dma.{DmaEvent, TransferStart, Store, DmaAccess, DeviceReset, dma_read, dma_word, dma_access, is_free};
+ghost use Rattle.part_definitions.specs.{Part.{Takes, Answers}, Dma.{DmaEvent, TransferStart, Store, DmaAccess, DeviceReset, dma_read, dma_word, dma_access, is_free}};
 
 use crate::activity::Activity;
 use crate::part::{covers_byte, part_of_word, register_place};

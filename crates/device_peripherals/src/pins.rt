@@ -1,6 +1,5 @@
 ghost use Rattle.std.specs.Prelude.{[]};
-ghost use Rattle.part_definitions.specs.Part.{Takes, Answers};
-ghost use Rattle.part_definitions.specs.Pins.{pins_word};
+ghost use Rattle.part_definitions.specs.{Part.{Takes, Answers}, Pins.pins_word};
 
 /// The 16 pins of port 1, which P1IN reads. They are 0 until they are set, and a reset leaves them.
 #[derive(Clone, Copy, Debug)]

@@ -1,6 +1,5 @@
 ghost use Rattle.std.specs.Prelude.{◌≡◌, ◌%◌, [], ◌∷◌, List, ℕ};
-ghost use Rattle.part_definitions.specs.Part.{Takes, Answers};
-ghost use Rattle.part_definitions.specs.PeripheralRegister.{RegisterWrite, register_write, register_of, register_word};
+ghost use Rattle.part_definitions.specs.{Part.{Takes, Answers}, PeripheralRegister.{RegisterWrite, register_write, register_of, register_word}};
 
 use crate::part::register_place;
 use word_arith::Size;

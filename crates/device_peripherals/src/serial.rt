@@ -1,6 +1,5 @@
 ghost use Rattle.std.specs.Prelude.{◌≡◌, [], IfOk};
-ghost use Rattle.part_definitions.specs.Part.{Takes, Answers, Becomes};
-ghost use Rattle.part_definitions.specs.Serial.{Arrival, Load, Store, DeviceReset, waiting_bytes, oldest_byte, has_room, serial_read, serial_word, serial_status, serial_requests, byte_sent};
+ghost use Rattle.part_definitions.specs.{Part.{Takes, Answers, Becomes}, Serial.{Arrival, Load, Store, DeviceReset, waiting_bytes, oldest_byte, has_room, serial_read, serial_word, serial_status, serial_requests, byte_sent}};
 
 use crate::part::{covers_byte, part_of_word, register_place};
 use crate::register::Register;

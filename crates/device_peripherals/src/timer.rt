@@ -1,6 +1,5 @@
 ghost use Rattle.std.specs.Prelude.{◌≡◌, ◌≤◌, ℕ, true, false, [], ◌∷◌, List};
-ghost use Rattle.part_definitions.specs.Part.{Takes, Answers, Becomes};
-ghost use Rattle.part_definitions.specs.Timer.{TimerEvent, Tick, Store, Acceptance, DeviceReset, timer_runs, timer_read, timer_word, timer_flag, timer_requests};
+ghost use Rattle.part_definitions.specs.{Part.{Takes, Answers, Becomes}, Timer.{TimerEvent, Tick, Store, Acceptance, DeviceReset, timer_runs, timer_read, timer_word, timer_flag, timer_requests}};
 
 use crate::part::{part_of_word, register_place};
 use crate::register::Register;
@@ -26,8 +25,7 @@ pub struct Timer {
 }
 
 impl Timer {
-    ghost use Rattle.device_peripherals.specs.Ticks.{with_ticks, ticks_before_zero};
-    ghost use Rattle.device_peripherals.specs.Timer.{TimerStandsFor};
+    ghost use Rattle.device_peripherals.specs.{Ticks.{with_ticks, ticks_before_zero}, Timer.TimerStandsFor};
 
     /// A timer that is stopped, with all registers 0.
     pub fn new() -> Timer

@@ -6,9 +6,7 @@ use Rattle.std.proofs.lemmas.List.{length-map}
 use Rattle.std.proofs.lemmas.List.Elements.{Contains-push}
 use Rattle.outside_edge.specs.Sink.{Takes}
 use Rattle.outside_edge.proofs.SinkLemmas.{takes_both}
-use Rattle.device_play.specs.declared.put_fault.PutFault.{PutFault}
-use Rattle.device_play.specs.declared.put_fault.PutFault.TheVariants.{Memory}
-use Rattle.device_play.specs.Cuts.{behind, TakesOneOf, StopsOnlyAt}
+use Rattle.device_play.specs.{declared.put_fault.PutFault.{PutFault, TheVariants.Memory}, Cuts.{behind, TakesOneOf, StopsOnlyAt}}
 use Rattle.device_play.proofs.PutsLemmas.{takes-nothing}
 
 -- each of them is one behind that text

@@ -1,13 +1,9 @@
 -- A play whose next steps have no events.
 use Rattle.std.proofs.Common.{◌≡◌, ◌≤◌, ◌<◌, ◌+◌, ℕ, Bool, subst, zero, suc, true, List, [], length, refl, ap, ⊎_elim, arith}
 use Rattle.std.proofs.lemmas.Bool.{cases_lt}
-use Rattle.bus_signals.specs.declared.access.Access.{Access}
-use Rattle.bus_signals.specs.declared.event.Event.{Event}
-use Rattle.device_trace.specs.Play.{Play}
-use Rattle.device_trace.specs.Start.{Start}
-use Rattle.device_trace.specs.Trace.{play_of}
-use Rattle.device_core.specs.Quiet.{AreQuiet, IsQuiet}
-use Rattle.device_core.specs.Silence.{is_silent, with_idle, AreSilent}
+use Rattle.bus_signals.specs.{declared.{access.Access.Access, event.Event.Event}}
+use Rattle.device_trace.specs.{Play.Play, Start.Start, Trace.play_of}
+use Rattle.device_core.specs.{Quiet.{AreQuiet, IsQuiet}, Silence.{is_silent, with_idle, AreSilent}}
 
 pub length-play_of :
     (events_at : ℕ → List Event) (steps : ℕ) → length (play_of events_at steps) ≡ steps

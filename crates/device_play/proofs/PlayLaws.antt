@@ -1,20 +1,10 @@
 -- A play obeys the laws of the device.
 use Rattle.std.proofs.Common.{◌≡◌, ◌∙◌, Bool, Some, ap, subst, sym}
 use Rattle.std.proofs.lemmas.Bool.{false≢true}
-use Rattle.bus_signals.specs.Address.{Bytes, Contents}
-use Rattle.bus_signals.specs.Report.{ReportFields}
-use Rattle.bus_signals.specs.SeenRecord.{SeenHistory}
-use Rattle.bus_signals.specs.declared.bounds.Bounds.{Bounds}
-use Rattle.part_definitions.specs.Hmac.{Digest}
-use Rattle.part_definitions.specs.Request.{ATTESTS}
-use Rattle.device_trace.specs.Play.{Play}
-use Rattle.device_trace.specs.RegionRun.{TrustedRun, WholeRun}
-use Rattle.device_trace.specs.Start.{Start, with_key}
-use Rattle.device_trace.specs.Text.{last_report}
-use Rattle.device_trace.specs.Trace.{trace}
-use Rattle.trace_facts.proofs.NeverBroken.{trace-names_neither}
-use Rattle.trace_facts.proofs.LastReport.{last_report-made}
-use Rattle.trace_facts.proofs.RomCode.{trace-in_call}
+use Rattle.bus_signals.specs.{Address.{Bytes, Contents}, Report.ReportFields, SeenRecord.SeenHistory, declared.bounds.Bounds.Bounds}
+use Rattle.part_definitions.specs.{Hmac.Digest, Request.ATTESTS}
+use Rattle.device_trace.specs.{Play.Play, RegionRun.{TrustedRun, WholeRun}, Start.{Start, with_key}, Text.last_report, Trace.trace}
+use Rattle.trace_facts.proofs.{NeverBroken.trace-names_neither, LastReport.last_report-made, RomCode.trace-in_call}
 use Rattle.key_isolation.proofs.TwoKeys.{looks_keyless}
 use Rattle.mac_coverage.specs.Coverage.{IsDeviceKey, IsOfBytes, MacCoversCall}
 use Rattle.mac_coverage.proofs.Plays.{last_report-finishes, mac_covers_call, some_same}
@@ -22,8 +12,7 @@ use Rattle.proof_of_execution.proofs.Plays.{decision-whole_run}
 use Rattle.request_freshness.proofs.Reports.{report-new}
 use Rattle.trusted_execution.proofs.StillTime.{decision-trusted_run}
 use Rattle.device_core.proofs.Outside.{keeps-counter}
-use Rattle.device_play.specs.LawfulReport.{IsLawfulReport}
-use Rattle.device_play.specs.PlayLaws.{IsLawfulMoment, KeepsKeyHidden, ObeysLaws}
+use Rattle.device_play.specs.{LawfulReport.IsLawfulReport, PlayLaws.{IsLawfulMoment, KeepsKeyHidden, ObeysLaws}}
 
 pub keeps_key_hidden : (start : Start) (play : Play) → KeepsKeyHidden start play
 keeps_key_hidden start play = λ later earlier parts. looks_keyless start earlier

@@ -1,15 +1,10 @@
 -- A watcher that was shown a step, and only writes.
 use Rattle.std.proofs.Common.{◌≡◌, ◌∷◌, List, Result, Ok, Err}
 use Rattle.std.specs.Prelude.{IsErrAnd}
-use Rattle.bus_signals.specs.Address.{Bytes}
-use Rattle.bus_signals.specs.declared.event.Event.{Event}
+use Rattle.bus_signals.specs.{Address.Bytes, declared.event.Event.Event}
 use Rattle.outside_edge.specs.Sink.{Takes, TakesPrefix}
-use Rattle.device_trace.specs.Play.{Play}
-use Rattle.device_trace.specs.Start.{Start}
-use Rattle.device_play.specs.Account.{Account}
-use Rattle.device_play.specs.Watching.{HasSeen}
-use Rattle.device_play.specs.declared.put_fault.PutFault.{PutFault}
-use Rattle.device_play.specs.declared.put_fault.PutFault.TheVariants.{Write}
+use Rattle.device_trace.specs.{Play.Play, Start.Start}
+use Rattle.device_play.specs.{Account.Account, Watching.HasSeen, declared.put_fault.PutFault.{PutFault, TheVariants.Write}}
 
 pub seen-all :
     {S T V : Type 0} {stands : S → Bytes → Type 0} {account : Account T} {old new : S} {tally : T}

@@ -1,14 +1,9 @@
 -- The lines of a step, from what a device tells of it.
 use Rattle.std.proofs.Common.{◌≡◌, ◌++◌, ◌∷◌, ℕ, List, Result, Option, length, refl}
-use Rattle.bus_signals.specs.declared.event.Event.{Event}
-use Rattle.bus_signals.specs.declared.rule.Rule.{Rule}
-use Rattle.bus_signals.specs.Report.{ReportFields}
+use Rattle.bus_signals.specs.{declared.{event.Event.Event, rule.Rule.Rule}, Report.ReportFields}
 use Rattle.outside_edge.specs.Sink.{Puts}
-use Rattle.device_trace.specs.Play.{Play}
-use Rattle.device_trace.specs.Start.{Start}
+use Rattle.device_trace.specs.{Play.Play, Start.Start, Text.{last_byte_sent, last_denial, last_report, some_line, lines_of_step}, Trace.trace}
 use Rattle.printed_lines.specs.Line.{sent_line, reset_line, report_line, denied_line}
-use Rattle.device_trace.specs.Text.{last_byte_sent, last_denial, last_report, some_line, lines_of_step}
-use Rattle.device_trace.specs.Trace.{trace}
 use Rattle.device_core.specs.Silence.{last_rule}
 
 -- those of the last step of a play, which has this number

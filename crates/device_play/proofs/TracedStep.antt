@@ -1,34 +1,15 @@
 -- What a device tells of its last step is the line of that step.
 use Rattle.std.proofs.Common.{◌≡◌, ◌≤◌, ◌∙◌, [], ◌∷◌, ℕ, suc, Bool, true, false, List, Option, Some, None, Ok, Result, option_map, if◌then◌else◌, refl, sym, ap, subst, length, arith}
-use Rattle.bus_signals.specs.declared.access.Access.{Access}
-use Rattle.bus_signals.specs.declared.access.Access.TheVariants.{Fetch, Read, Write}
-use Rattle.bus_signals.specs.declared.bounds.Bounds.{Bounds}
-use Rattle.bus_signals.specs.declared.bus_record.BusRecord.{BusRecord}
-use Rattle.bus_signals.specs.declared.event.Event.{Event}
-use Rattle.bus_signals.specs.declared.rule.Rule.{Rule}
-use Rattle.bus_signals.specs.declared.rule.Rule.TheVariants.{X0}
-use Rattle.bus_signals.specs.declared.signals.Signals.{Signals}
+use Rattle.bus_signals.specs.{declared.{access.Access.{Access, TheVariants.{Fetch, Read, Write}}, bounds.Bounds.Bounds, bus_record.BusRecord.BusRecord, event.Event.Event, rule.Rule.{Rule, TheVariants.X0}, signals.Signals.Signals}}
 use Rattle.outside_edge.specs.Sink.{Puts}
 use Rattle.std.specs.Option.{option_or}
 use Rattle.part_definitions.specs.FirstRule.{first_rule, rule_where}
-use Rattle.device_trace.specs.Play.{Play}
-use Rattle.device_trace.specs.Blank.{blank_value, blank_record, touches_secrets}
-use Rattle.device_trace.specs.Logs.{Logs, exec_of, logged_bounds, with_events}
-use Rattle.device_trace.specs.Signals.{proposed_access, signals_at, signals_of, step_kind, value_read, word_fetched}
-use Rattle.device_trace.specs.Start.{Start}
-use Rattle.device_trace.specs.Step.{access_recorded, asks_reset, next_record, next_signals, record_of}
-use Rattle.device_trace.specs.Trace.{last_bounds, last_record, last_signals, logs_after, next_logs, trace}
+use Rattle.device_trace.specs.{Play.Play, Blank.{blank_value, blank_record, touches_secrets}, Logs.{Logs, exec_of, logged_bounds, with_events}, Signals.{proposed_access, signals_at, signals_of, step_kind, value_read, word_fetched}, Start.Start, Step.{access_recorded, asks_reset, next_record, next_signals, record_of}, Trace.{last_bounds, last_record, last_signals, logs_after, next_logs, trace}}
 use Rattle.device_core.specs.Refusal.{last_refused, where_refused}
 use Rattle.key_isolation.proofs.Bytes.{zero_either}
-use Rattle.trace_files.specs.declared.trace_line.TraceLine.{TraceLine}
-use Rattle.trace_files.specs.LineText.{trace_line}
-use Rattle.trace_files.specs.LineReadBack.{ArePrintable, IsPrintable}
-use Rattle.trace_files.specs.TraceFile.{trace_of}
+use Rattle.trace_files.specs.{declared.trace_line.TraceLine.TraceLine, LineText.trace_line, LineReadBack.{ArePrintable, IsPrintable}, TraceFile.trace_of, TraceText.{last_line, next_line, trace_lines, trace_text, word_shown}}
 use Rattle.trace_files.proofs.FileReadBack.{file_reads_back}
-use Rattle.trace_files.specs.TraceText.{last_line, next_line, trace_lines, trace_text, word_shown}
-use Rattle.device_play.specs.Accounts.{trace_account}
-use Rattle.device_play.specs.Limit.{most_steps}
-use Rattle.device_play.specs.TraceLine.{proposal_shown, value_shown, word_read}
+use Rattle.device_play.specs.{Accounts.trace_account, Limit.most_steps, TraceLine.{proposal_shown, value_shown, word_read}}
 
 -- the word that a line shows goes by where the access is, which a record keeps
 recorded_word : (rule : Option Rule) (access : Option Access) (word : ℕ)

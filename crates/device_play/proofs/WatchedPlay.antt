@@ -1,26 +1,15 @@
 -- A play before a watcher: what was said of the steps so far, and what is still to come.
 use Rattle.std.proofs.Common.{◌≡◌, ◌≤◌, ◌<◌, ◌+◌, ◌-◌, ◌++◌, ◌∙◌, [], ℕ, zero, suc, Bool, List, Result, Ok, Err, refl, sym, ap, subst, arith, append_assoc, append-nil}
 use Rattle.std.specs.Prelude.{Contains, IsErrAnd}
-use Rattle.bus_signals.specs.Address.{Bytes}
-use Rattle.bus_signals.specs.declared.event.Event.{Event}
-use Rattle.bus_signals.specs.TraceFlag.{Flag}
+use Rattle.bus_signals.specs.{Address.Bytes, declared.event.Event.Event, TraceFlag.Flag}
 use Rattle.hmac_core.specs.Hash.{Hash}
 use Rattle.outside_edge.specs.Sink.{Takes, TakesPrefix}
 use Rattle.outside_edge.proofs.SinkLemmas.{prefix_after, prefix_of_more, takes_both}
-use Rattle.device_trace.specs.Play.{Play}
-use Rattle.device_trace.specs.Start.{Start}
-use Rattle.device_trace.specs.Trace.{play_of}
+use Rattle.device_trace.specs.{Play.Play, Start.Start, Trace.play_of}
 use Rattle.play_script.specs.declared.playback.Playback.{Playback}
-use Rattle.device_core.specs.Device.{LiveStandsFor, steps_made}
-use Rattle.device_core.specs.declared.live.Live.{Live}
-use Rattle.device_play.specs.Account.{Account, GoesOn, IsPassed, whole_text}
-use Rattle.device_play.specs.Cuts.{TakesOneOf}
-use Rattle.device_play.specs.Midway.{HasGoneOn, IsMidway}
-use Rattle.device_play.specs.Watching.{HasSeen, IsShown, IsWatched}
-use Rattle.device_play.proofs.IdlePlay.{length-play_of}
-use Rattle.device_play.proofs.PlayLaws.{keeps_key_hidden, obeys_laws_with}
-use Rattle.device_play.specs.declared.put_fault.PutFault.{PutFault}
-use Rattle.device_play.specs.declared.put_fault.PutFault.TheVariants.{Write, Memory}
+use Rattle.device_core.specs.{Device.{LiveStandsFor, steps_made}, declared.live.Live.Live}
+use Rattle.device_play.specs.{Account.{Account, GoesOn, IsPassed, whole_text}, Cuts.TakesOneOf, Midway.{HasGoneOn, IsMidway}, Watching.{HasSeen, IsShown, IsWatched}, declared.put_fault.PutFault.{PutFault, TheVariants.{Write, Memory}}}
+use Rattle.device_play.proofs.{IdlePlay.length-play_of, PlayLaws.{keeps_key_hidden, obeys_laws_with}}
 
 -- what a watcher says goes on from step to step
 abbrev pub AlwaysGoesOn : {T : Type 0} → Account T → Bool → Start → Type 0

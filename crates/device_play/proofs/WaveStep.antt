@@ -1,20 +1,10 @@
 -- What a device tells of its last step is what a waveform shows of it.
 use Rattle.std.proofs.Common.{◌≡◌, [], ◌∷◌, ℕ, suc, List, Some, Result, refl, sym, ap, subst, length, ◌∙◌}
-use Rattle.bus_signals.specs.declared.bus_record.BusRecord.{BusRecord}
-use Rattle.bus_signals.specs.declared.event.Event.{Event}
+use Rattle.bus_signals.specs.{declared.{bus_record.BusRecord.BusRecord, event.Event.Event}}
 use Rattle.outside_edge.specs.Sink.{Puts}
 use Rattle.part_definitions.specs.Pins.{pins_word}
-use Rattle.device_trace.specs.Logs.{with_events, with_record}
-use Rattle.device_trace.specs.Play.{Play}
-use Rattle.device_trace.specs.Start.{Start}
-use Rattle.device_trace.specs.Step.{next_record}
-use Rattle.device_trace.specs.Text.{byte_sent_in}
-use Rattle.device_trace.specs.Trace.{last_record, logs_after, trace}
-use Rattle.trace_files.specs.declared.ports.Ports.{Ports}
-use Rattle.trace_files.specs.declared.sample.Sample.{Sample}
-use Rattle.trace_files.specs.WaveText.{last_shown, shown_after, step_text}
-use Rattle.trace_files.specs.TraceText.{last_line, next_line}
-use Rattle.trace_files.specs.WaveSamples.{byte_received_in, last_ports, last_sample, next_ports, next_sample, play_state, wave_samples}
+use Rattle.device_trace.specs.{Logs.{with_events, with_record}, Play.Play, Start.Start, Step.next_record, Text.byte_sent_in, Trace.{last_record, logs_after, trace}}
+use Rattle.trace_files.specs.{declared.{ports.Ports.Ports, sample.Sample.Sample}, WaveText.{last_shown, shown_after, step_text}, TraceText.{last_line, next_line}, WaveSamples.{byte_received_in, last_ports, last_sample, next_ports, next_sample, play_state, wave_samples}}
 use Rattle.device_play.specs.Accounts.{change_text}
 
 -- a step leaves the pins as its events set them

@@ -1,20 +1,10 @@
 -- What `play`, `dump`, `trace` and `wave` say of a play.
 use Rattle.std.specs.Prelude.{◌++◌, [], ℕ, List, Option, Some, None, length, if◌then◌else◌}
-use Rattle.bus_signals.specs.Address.{Bytes}
-use Rattle.bus_signals.specs.declared.event.Event.{Event}
+use Rattle.bus_signals.specs.{Address.Bytes, declared.event.Event.Event}
 use Rattle.part_definitions.specs.Memory.{is_image_place}
 use Rattle.hex_loader.specs.HexText.{hex_text}
-use Rattle.device_trace.specs.Play.{Play}
-use Rattle.device_trace.specs.Start.{Start}
-use Rattle.device_trace.specs.Text.{lines_of, lines_of_step, end_line_after}
-use Rattle.device_trace.specs.Trace.{byte_after, logs_after}
-use Rattle.trace_files.specs.LineText.{trace_line}
-use Rattle.trace_files.specs.LineReadBack.{ArePrintable}
-use Rattle.trace_files.specs.declared.wave.Wave.{Wave}
-use Rattle.trace_files.specs.Wave.{WaveStandsFor}
-use Rattle.trace_files.specs.WaveText.{end_text, header, last_shown, shown_after, step_text, steps_text}
-use Rattle.trace_files.specs.TraceText.{next_line, trace_lines, trace_text}
-use Rattle.trace_files.specs.WaveSamples.{next_sample, wave_samples}
+use Rattle.device_trace.specs.{Play.Play, Start.Start, Text.{lines_of, lines_of_step, end_line_after}, Trace.{byte_after, logs_after}}
+use Rattle.trace_files.specs.{LineText.trace_line, LineReadBack.ArePrintable, declared.wave.Wave.Wave, Wave.WaveStandsFor, WaveText.{end_text, header, last_shown, shown_after, step_text, steps_text}, TraceText.{next_line, trace_lines, trace_text}, WaveSamples.{next_sample, wave_samples}}
 use Rattle.device_play.specs.Account.{Account}
 
 abbrev pub end_line_of : Start → Play → Bytes

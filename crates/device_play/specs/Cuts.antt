@@ -1,10 +1,8 @@
 -- Where the putting of a text stops when memory runs out.
 use Rattle.std.specs.Prelude.{◌≡◌, ◌≤◌, ◌++◌, ◌⊎◌, List, ℕ, Result, IfErr, OnOk, Contains, map}
 use Rattle.bus_signals.specs.Address.{Bytes}
-use Rattle.outside_edge.specs.Count.{Rose}
-use Rattle.outside_edge.specs.Sink.{Takes}
-use Rattle.device_play.specs.declared.put_fault.PutFault.{PutFault}
-use Rattle.device_play.specs.declared.put_fault.PutFault.TheVariants.{Write, Memory}
+use Rattle.outside_edge.specs.{Count.Rose, Sink.Takes}
+use Rattle.device_play.specs.{declared.put_fault.PutFault.{PutFault, TheVariants.{Write, Memory}}}
 
 -- these texts, each behind that one
 abbrev pub behind : Bytes → List Bytes → List Bytes

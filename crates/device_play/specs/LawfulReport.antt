@@ -1,14 +1,9 @@
 -- What a report tells of the moment at which it is made.
 use Rattle.std.specs.Prelude.{◌≡◌, ◌<◌, ◌++◌, length}
-use Rattle.bus_signals.specs.Address.{Bytes}
-use Rattle.bus_signals.specs.Report.{ReportFields}
-use Rattle.part_definitions.specs.Hmac.{Digest}
-use Rattle.part_definitions.specs.TrustedFlag.{aux}
-use Rattle.device_trace.specs.Play.{Play}
-use Rattle.device_trace.specs.Report.{AuxMeansTrustedRun, ExecMeansWholeRun}
-use Rattle.device_trace.specs.Start.{Start}
-use Rattle.mac_coverage.specs.AttestedBytes.{AttestedBytes, tag_of}
-use Rattle.mac_coverage.specs.Coverage.{Gives32Bytes, attested_after, call_length}
+use Rattle.bus_signals.specs.{Address.Bytes, Report.ReportFields}
+use Rattle.part_definitions.specs.{Hmac.Digest, TrustedFlag.aux}
+use Rattle.device_trace.specs.{Play.Play, Report.{AuxMeansTrustedRun, ExecMeansWholeRun}, Start.Start}
+use Rattle.mac_coverage.specs.{AttestedBytes.{AttestedBytes, tag_of}, Coverage.{Gives32Bytes, attested_after, call_length}}
 
 -- a report that the last step of a play makes, of a device with this key
 pub record IsLawfulReport (digest : Digest) (key : Bytes) (start : Start) (report : ReportFields)

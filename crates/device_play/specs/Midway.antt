@@ -1,16 +1,10 @@
 -- A device in the middle of a play.
 use Rattle.std.specs.Prelude.{◌≡◌, ◌≤◌, ◌<◌, ◌+◌, ℕ, suc, Bool, List, []}
-use Rattle.bus_signals.specs.declared.access.Access.{Access}
-use Rattle.bus_signals.specs.declared.event.Event.{Event}
-use Rattle.bus_signals.specs.TraceFlag.{Flag}
+use Rattle.bus_signals.specs.{declared.{access.Access.Access, event.Event.Event}, TraceFlag.Flag}
 use Rattle.hmac_core.specs.Hash.{Hash}
-use Rattle.device_trace.specs.Start.{Start}
-use Rattle.device_trace.specs.Trace.{play_of}
-use Rattle.play_script.specs.Playback.{events_left}
-use Rattle.play_script.specs.declared.playback.Playback.{Playback}
-use Rattle.device_core.specs.Device.{LiveStandsFor, steps_made}
-use Rattle.device_core.specs.Quiet.{IsQuiet}
-use Rattle.device_core.specs.declared.live.Live.{Live}
+use Rattle.device_trace.specs.{Start.Start, Trace.play_of}
+use Rattle.play_script.specs.{Playback.events_left, declared.playback.Playback.Playback}
+use Rattle.device_core.specs.{Device.{LiveStandsFor, steps_made}, Quiet.IsQuiet, declared.live.Live.Live}
 use Rattle.device_play.specs.Account.{IsPassed}
 
 -- a device that stands for a play's first steps, as many as it made; the events of the later ones

@@ -1,15 +1,9 @@
 -- What the laws of the device say of a play.
 use Rattle.std.specs.Prelude.{◌≡◌, All}
 use Rattle.bus_signals.specs.Address.{Bytes}
-use Rattle.part_definitions.specs.Hmac.{Digest}
-use Rattle.part_definitions.specs.TrustedFlag.{aux}
-use Rattle.device_trace.specs.Moment.{EachMoment}
-use Rattle.device_trace.specs.Play.{Play}
-use Rattle.device_trace.specs.Report.{EachReport}
-use Rattle.device_trace.specs.Start.{Start}
-use Rattle.device_trace.specs.Trace.{trace}
-use Rattle.trace_facts.specs.Naming.{NamesNeitherA1NorK3}
-use Rattle.trace_facts.specs.RomCode.{RunsRomInCall}
+use Rattle.part_definitions.specs.{Hmac.Digest, TrustedFlag.aux}
+use Rattle.device_trace.specs.{Moment.EachMoment, Play.Play, Report.EachReport, Start.Start, Trace.trace}
+use Rattle.trace_facts.specs.{Naming.NamesNeitherA1NorK3, RomCode.RunsRomInCall}
 use Rattle.key_isolation.specs.Keyless.{LooksKeyless}
 use Rattle.mac_coverage.specs.Coverage.{MacCoversLastCall}
 use Rattle.proof_of_execution.specs.WholeCall.{ExecAfterCallMeansWholeRun}

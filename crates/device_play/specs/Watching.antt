@@ -1,21 +1,11 @@
 -- A play before a watcher.
 use Rattle.std.specs.Prelude.{◌≡◌, ◌++◌, ◌∷◌, [], ℕ, List, length, Contains, Result, IfOk, OnOk}
-use Rattle.bus_signals.specs.Address.{Bytes}
-use Rattle.bus_signals.specs.declared.event.Event.{Event}
-use Rattle.bus_signals.specs.TraceFlag.{Flag}
+use Rattle.bus_signals.specs.{Address.Bytes, declared.event.Event.Event, TraceFlag.Flag}
 use Rattle.hmac_core.specs.Hash.{Hash}
 use Rattle.outside_edge.specs.Sink.{Puts}
-use Rattle.device_trace.specs.Play.{Play}
-use Rattle.device_trace.specs.Start.{Start}
-use Rattle.device_core.specs.Device.{HeldStandsFor, LiveStandsFor}
-use Rattle.device_core.specs.ForEachKey.{ForEachKey}
-use Rattle.device_core.specs.declared.device.Device.{Device}
-use Rattle.device_core.specs.declared.device.Held.{Held}
-use Rattle.device_core.specs.declared.live.Live.{Live}
-use Rattle.device_play.specs.Account.{Account, whole_text}
-use Rattle.device_play.specs.Cuts.{StopsOnlyAt, StopsWhere}
-use Rattle.device_play.specs.PlayLaws.{KeepsKeyHidden, ObeysLaws}
-use Rattle.device_play.specs.declared.put_fault.PutFault.{PutFault}
+use Rattle.device_trace.specs.{Play.Play, Start.Start}
+use Rattle.device_core.specs.{Device.{HeldStandsFor, LiveStandsFor}, ForEachKey.ForEachKey, declared.{device.{Device.Device, Held.Held}, live.Live.Live}}
+use Rattle.device_play.specs.{Account.{Account, whole_text}, Cuts.{StopsOnlyAt, StopsWhere}, PlayLaws.{KeepsKeyHidden, ObeysLaws}, declared.put_fault.PutFault.PutFault}
 
 -- there is what a device is powered on with, and it has made no step
 abbrev pub IsPoweredOn : {D G : Type 0} → Hash D → Flag G → Device Held D G → Type 0

@@ -1,12 +1,9 @@
 ghost use Rattle.std.specs.Prelude.{◌≡◌, ◌<◌, ◌≤◌, ◌^◌, [], ℕ, List, true};
 ghost use Rattle.bus_signals.specs.declared.event.Event.{Event};
-ghost use Rattle.device_trace.specs.Start.{Start};
-ghost use Rattle.device_trace.specs.Trace.{play_of};
+ghost use Rattle.device_trace.specs.{Start.Start, Trace.play_of};
 ghost use Rattle.play_script.specs.Script.{events_of};
 ghost use Rattle.device_core.specs.Device.{HasStepped, HeldStandsFor, steps_made};
-ghost use Rattle.device_play.specs.Cuts.{CountsWriteFaults};
-ghost use Rattle.device_play.specs.Midway.{IsMidway, HasGoneOn, HasGoneQuietlyOn};
-ghost use Rattle.device_play.specs.Watching.{IsPoweredOn, IsWatched};
+ghost use Rattle.device_play.specs.{Cuts.CountsWriteFaults, Midway.{IsMidway, HasGoneOn, HasGoneQuietlyOn}, Watching.{IsPoweredOn, IsWatched}};
 
 use crate::put_fault::PutFault;
 use crate::watcher::Watcher;

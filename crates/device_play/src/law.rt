@@ -1,10 +1,7 @@
 ghost use Rattle.bus_signals.specs.Address.{Bytes};
 ghost use Rattle.part_definitions.specs.Hmac.{Digest};
-ghost use Rattle.device_trace.specs.Play.{Play};
-ghost use Rattle.device_trace.specs.Report.{EachReport};
-ghost use Rattle.device_trace.specs.Start.{Start};
-ghost use Rattle.device_play.specs.LawfulReport.{IsLawfulReport};
-ghost use Rattle.device_play.specs.PlayLaws.{ObeysLaws};
+ghost use Rattle.device_trace.specs.{Play.Play, Report.EachReport, Start.Start};
+ghost use Rattle.device_play.specs.{LawfulReport.IsLawfulReport, PlayLaws.ObeysLaws};
 
 /// A report is made as a call ends, and tells of that moment: so what the laws say of each moment
 /// of a play, they say of each of its reports.

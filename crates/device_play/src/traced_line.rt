@@ -1,10 +1,8 @@
 ghost use Rattle.std.specs.Prelude.{◌≡◌, Some, option_map};
 ghost use Rattle.device_trace.specs.Trace.{last_record, last_signals, trace};
 ghost use Rattle.device_core.specs.Device.{HasStepped, OfLive};
-ghost use Rattle.trace_files.specs.LineReadBack.{IsPrintable};
-ghost use Rattle.trace_files.specs.TraceText.{last_line};
-ghost use Rattle.device_play.specs.TraceLine.{proposal_shown, value_shown, word_read};
-ghost use Rattle.device_play.specs.Watching.{PlaysSome};
+ghost use Rattle.trace_files.specs.{LineReadBack.IsPrintable, TraceText.last_line};
+ghost use Rattle.device_play.specs.{TraceLine.{proposal_shown, value_shown, word_read}, Watching.PlaysSome};
 
 use bus_signals::{Access, TraceFlag};
 use device_core::{Live, blank_access, blank_value};

@@ -13,11 +13,8 @@ pub trait Watcher {
     ghost use Rattle.bus_signals.specs.declared.event.Event.{Event};
     ghost use Rattle.outside_edge.specs.Sink.{Puts, CountsFaults};
     ghost use Rattle.part_definitions.specs.Hmac.{Digest};
-    ghost use Rattle.device_trace.specs.Play.{Play};
-    ghost use Rattle.device_trace.specs.Start.{Start};
-    ghost use Rattle.device_play.specs.Account.{Account, GoesOn};
-    ghost use Rattle.device_play.specs.Cuts.{CountsWriteFaults};
-    ghost use Rattle.device_play.specs.Watching.{HasSeen, IsShown, IsShownSome};
+    ghost use Rattle.device_trace.specs.{Play.Play, Start.Start};
+    ghost use Rattle.device_play.specs.{Account.{Account, GoesOn}, Cuts.CountsWriteFaults, Watching.{HasSeen, IsShown, IsShownSome}};
 
     /// What it keeps of the steps so far.
     type Tally: Copy;

@@ -1,8 +1,7 @@
 -- How many handlers were entered and not left, as far as a number of 64 bits counts. One is entered
 -- with the first step of its entry, and left with the fetch of its RETI; a reset leaves all.
 use Rattle.std.specs.Prelude.{ℕ, ◌==◌, ◌+◌, ◌-◌, ◌^◌, ◌∷◌, min, if◌then◌else◌}
-use Rattle.msp_decode.specs.declared.head.Head.TheVariants.{Reti}
-use Rattle.msp_decode.specs.Spelling.{word_of}
+use Rattle.msp_decode.specs.{declared.head.Head.TheVariants.Reti, Spelling.word_of}
 use Rattle.part_definitions.specs.CpuState.{Boundary, Executing, Entering}
 use Rattle.device_trace.specs.Progress.{Progress, Held, Runs}
 

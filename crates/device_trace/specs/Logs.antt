@@ -1,28 +1,8 @@
 -- What happened to each part of the device, made from events and records by one projection a part.
 use Rattle.std.specs.Prelude.{◌==◌, ◌&&◌, ◌++◌, ℕ, Bool, not, List, [], ◌∷◌, map, Option, Some, None, is_none, if◌then◌else◌}
-use Rattle.bus_signals.specs.declared.access.Access.{Access}
-use Rattle.bus_signals.specs.declared.access.Access.TheVariants.{Write}
-use Rattle.bus_signals.specs.declared.bus_record.BusRecord.{BusRecord}
-use Rattle.bus_signals.specs.declared.event.Event.{Event}
-use Rattle.bus_signals.specs.declared.kind.Kind.{Kind}
-use Rattle.bus_signals.specs.declared.kind.Kind.TheVariants.{Rom}
-use Rattle.bus_signals.specs.declared.rule.Rule.{Rule}
-use Rattle.bus_signals.specs.declared.bounds.Bounds.{Bounds}
-use Rattle.bus_signals.specs.Kind.{is_irq, is_rom}
-use Rattle.bus_signals.specs.Map.{lies_in, mac_region, ROM_ENTRY, ROM_EXIT}
-use Rattle.bus_signals.specs.SeenRecord.{SeenRecord}
-use Rattle.part_definitions.specs.Attestation.{decision_read}
-use Rattle.part_definitions.specs.CpuRegister.{allows_interrupts}
-use Rattle.part_definitions.specs.CpuState.{Boundary}
-use Rattle.bus_signals.specs.ExecFlag.{exec}
-use Rattle.part_definitions.specs.Interrupt.{first_vector}
-use Rattle.part_definitions.specs.Memory.{MemoryWrite, ShownFlags, with_access, byte_at}
-use Rattle.part_definitions.specs.Metadata.{bounds_in}
-use Rattle.device_trace.specs.Blank.{blank_seen}
-use Rattle.device_trace.specs.Level.{level_after}
-use Rattle.device_trace.specs.Peripherals.{Peripherals, power_on_peripherals, with_all_events, requests, with_step}
-use Rattle.device_trace.specs.Progress.{Progress, Held, Runs, InCall, last_registers, progress_within, next_progress}
-use Rattle.device_trace.specs.Start.{Start}
+use Rattle.bus_signals.specs.{declared.{access.Access.{Access, TheVariants.Write}, bus_record.BusRecord.BusRecord, event.Event.Event, kind.Kind.{Kind, TheVariants.Rom}, rule.Rule.Rule, bounds.Bounds.Bounds}, Kind.{is_irq, is_rom}, Map.{lies_in, mac_region, ROM_ENTRY, ROM_EXIT}, SeenRecord.SeenRecord, ExecFlag.exec}
+use Rattle.part_definitions.specs.{Attestation.decision_read, CpuRegister.allows_interrupts, CpuState.Boundary, Interrupt.first_vector, Memory.{MemoryWrite, ShownFlags, with_access, byte_at}, Metadata.bounds_in}
+use Rattle.device_trace.specs.{Blank.blank_seen, Level.level_after, Peripherals.{Peripherals, power_on_peripherals, with_all_events, requests, with_step}, Progress.{Progress, Held, Runs, InCall, last_registers, progress_within, next_progress}, Start.Start}
 
 pub record Logs : Type 0 where
   pub progress : Progress

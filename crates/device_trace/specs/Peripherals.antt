@@ -1,21 +1,10 @@
 -- What happened to each peripheral: what the events of a step and its record add to the lists.
 use Rattle.std.specs.Prelude.{◌==◌, ◌++◌, ℕ, List, [], ◌∷◌, Option, Some, None, if◌then◌else◌}
-use Rattle.word_arith.specs.declared.size.Size.{Size}
-use Rattle.word_arith.specs.declared.size.Size.TheVariants.{Word}
-use Rattle.word_arith.specs.Word16.{Word16}
-use Rattle.bus_signals.specs.declared.access.Access.{Access}
-use Rattle.bus_signals.specs.declared.access.Access.TheVariants.{Fetch, Read, Write}
-use Rattle.bus_signals.specs.declared.event.Event.{Event}
-use Rattle.bus_signals.specs.declared.event.Event.TheVariants.{Rx, Pins, Dma, Reset}
-use Rattle.bus_signals.specs.declared.rule.Rule.{Rule}
-use Rattle.bus_signals.specs.Map.{lies_in, pins_region, serial_region, timer_region, dma_region, SERIAL_VECTOR, TIMER_VECTOR}
-use Rattle.bus_signals.specs.Address.{Address}
-use Rattle.part_definitions.specs.Dma.{DmaEvent, TransferStart, DmaAccess, dma_read}
+use Rattle.word_arith.specs.{declared.size.Size.{Size, TheVariants.Word}, Word16.Word16}
+use Rattle.bus_signals.specs.{declared.{access.Access.{Access, TheVariants.{Fetch, Read, Write}}, event.Event.{Event, TheVariants.{Rx, Pins, Dma, Reset}}, rule.Rule.Rule}, Map.{lies_in, pins_region, serial_region, timer_region, dma_region, SERIAL_VECTOR, TIMER_VECTOR}, Address.Address}
+use Rattle.part_definitions.specs.{Dma.{DmaEvent, TransferStart, DmaAccess, dma_read}, Pins.pins_read, Serial.{SerialEvent, Arrival, Load, serial_read, serial_requests}, Timer.{TimerEvent, Tick, Acceptance, timer_read, timer_requests}}
 use Rattle.part_definitions.specs.Dma as DmaEngine
-use Rattle.part_definitions.specs.Pins.{pins_read}
-use Rattle.part_definitions.specs.Serial.{SerialEvent, Arrival, Load, serial_read, serial_requests}
 use Rattle.part_definitions.specs.Serial as SerialPort
-use Rattle.part_definitions.specs.Timer.{TimerEvent, Tick, Acceptance, timer_read, timer_requests}
 use Rattle.part_definitions.specs.Timer as IntervalTimer
 
 pub record Peripherals : Type 0 where

@@ -1,12 +1,7 @@
 -- The reports of a play.
 use Rattle.std.specs.Prelude.{◌≡◌, Some, IsTrue}
 use Rattle.bus_signals.specs.Report.{ReportFields}
-use Rattle.device_trace.specs.Moment.{EachMoment}
-use Rattle.device_trace.specs.Start.{Start}
-use Rattle.device_trace.specs.Text.{last_report}
-use Rattle.device_trace.specs.Trace.{trace}
-use Rattle.device_trace.specs.RegionRun.{TrustedRun, WholeRun}
-use Rattle.device_trace.specs.Play.{Play}
+use Rattle.device_trace.specs.{Moment.EachMoment, Start.Start, Text.last_report, Trace.trace, RegionRun.{TrustedRun, WholeRun}, Play.Play}
 
 -- this holds of every report that a play makes, and of the play up to it
 abbrev pub EachReport : Start → Play → (ReportFields → Play → Type 0) → Type 0

@@ -1,20 +1,9 @@
 -- What a step is about to do.
 use Rattle.std.specs.Prelude.{◌&&◌, ℕ, Bool, Option, Some, None, is_some, length, if◌then◌else◌}
-use Rattle.word_arith.specs.declared.size.Size.{Size}
-use Rattle.word_arith.specs.declared.size.Size.TheVariants.{Word}
-use Rattle.word_arith.specs.Word16.{Word16}
-use Rattle.bus_signals.specs.declared.access.Access.{Access}
-use Rattle.bus_signals.specs.declared.access.Access.TheVariants.{Fetch, Read, Write}
-use Rattle.bus_signals.specs.declared.kind.Kind.{Kind}
-use Rattle.bus_signals.specs.declared.signals.Signals.{Signals}
-use Rattle.bus_signals.specs.Map.{lies_in, peripheral_region}
-use Rattle.bus_signals.specs.Address.{Address}
-use Rattle.part_definitions.specs.Dma.{dma_access}
-use Rattle.part_definitions.specs.Memory.{number_at}
-use Rattle.device_trace.specs.Logs.{Logs, logged_byte, vector_of, step_progress}
-use Rattle.device_trace.specs.Peripherals.{peripheral_read}
-use Rattle.device_trace.specs.Progress.{kind_of, next_pc_of, tells_irq, access_of, fetches_opcode}
-use Rattle.device_trace.specs.Start.{Start}
+use Rattle.word_arith.specs.{declared.size.Size.{Size, TheVariants.Word}, Word16.Word16}
+use Rattle.bus_signals.specs.{declared.{access.Access.{Access, TheVariants.{Fetch, Read, Write}}, kind.Kind.Kind, signals.Signals.Signals}, Map.{lies_in, peripheral_region}, Address.Address}
+use Rattle.part_definitions.specs.{Dma.dma_access, Memory.number_at}
+use Rattle.device_trace.specs.{Logs.{Logs, logged_byte, vector_of, step_progress}, Peripherals.peripheral_read, Progress.{kind_of, next_pc_of, tells_irq, access_of, fetches_opcode}, Start.Start}
 
 -- what the processor reads at a place: a register of a peripheral, or memory
 abbrev pub number_read : Start → Logs → Address → Size → ℕ

@@ -2,11 +2,8 @@
 -- calls write.
 use Rattle.std.specs.Prelude.{ℕ, Bool, List, slice_index}
 use Rattle.word_arith.specs.Word16.{Word16}
-use Rattle.bus_signals.specs.SeenRecord.{SeenHistory}
-use Rattle.bus_signals.specs.Address.{Contents, Bytes}
-use Rattle.part_definitions.specs.Attestation.{CallItem, DecisionWrite, MacWrite, written_word}
-use Rattle.part_definitions.specs.Memory.{PowerOn}
-use Rattle.part_definitions.specs.Hmac.{Digest}
+use Rattle.bus_signals.specs.{SeenRecord.SeenHistory, Address.{Contents, Bytes}}
+use Rattle.part_definitions.specs.{Attestation.{CallItem, DecisionWrite, MacWrite, written_word}, Memory.PowerOn, Hmac.Digest}
 
 pub record Start : Type 0 where
   pub power : PowerOn

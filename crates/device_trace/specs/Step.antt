@@ -1,21 +1,9 @@
 -- The record of a step.
 use Rattle.std.specs.Prelude.{ℕ, Bool, true, false, List, Option, Some, None}
 use Rattle.std.specs.List.{list_any}
-use Rattle.bus_signals.specs.declared.access.Access.{Access}
-use Rattle.bus_signals.specs.declared.bus_record.BusRecord.{BusRecord}
-use Rattle.bus_signals.specs.declared.event.Event.{Event}
-use Rattle.bus_signals.specs.declared.event.Event.TheVariants.{Reset}
-use Rattle.bus_signals.specs.declared.rule.Rule.{Rule}
-use Rattle.bus_signals.specs.declared.signals.Signals.{Signals}
-use Rattle.bus_signals.specs.Access.{without_number}
-use Rattle.part_definitions.specs.FirstRule.{first_rule}
-use Rattle.bus_signals.specs.ExecFlag.{last_pc}
-use Rattle.part_definitions.specs.Memory.{byte_at, memory_read, with_access}
-use Rattle.part_definitions.specs.CpuRegister.{Registers}
-use Rattle.device_trace.specs.Logs.{Logs, flags_of, with_events}
-use Rattle.device_trace.specs.Progress.{last_registers}
-use Rattle.device_trace.specs.Signals.{value_read, signals_of}
-use Rattle.device_trace.specs.Start.{Start}
+use Rattle.bus_signals.specs.{declared.{access.Access.Access, bus_record.BusRecord.BusRecord, event.Event.{Event, TheVariants.Reset}, rule.Rule.Rule, signals.Signals.Signals}, Access.without_number, ExecFlag.last_pc}
+use Rattle.part_definitions.specs.{FirstRule.first_rule, Memory.{byte_at, memory_read, with_access}, CpuRegister.Registers}
+use Rattle.device_trace.specs.{Logs.{Logs, flags_of, with_events}, Progress.last_registers, Signals.{value_read, signals_of}, Start.Start}
 
 abbrev pub is_reset : Event → Bool
 is_reset Reset = true

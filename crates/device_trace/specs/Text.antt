@@ -1,27 +1,10 @@
 -- The text of a play: a line for each step that sent a byte, reset the device or finished a call,
 -- and an end line.
 use Rattle.std.specs.Prelude.{◌==◌, ◌++◌, ℕ, List, [], ◌∷◌, Option, Some, None, length, if◌then◌else◌}
-use Rattle.bus_signals.specs.declared.access.Access.{Access}
-use Rattle.bus_signals.specs.declared.access.Access.TheVariants.{Write}
-use Rattle.bus_signals.specs.declared.bus_record.BusRecord.{BusRecord}
-use Rattle.bus_signals.specs.declared.event.Event.{Event}
-use Rattle.bus_signals.specs.declared.rule.Rule.{Rule}
-use Rattle.bus_signals.specs.declared.bounds.Bounds.{Bounds}
-use Rattle.bus_signals.specs.declared.version.Version.TheVariants.{Two}
-use Rattle.bus_signals.specs.Report.{ReportFields}
-use Rattle.bus_signals.specs.Bounds.{are_valid}
-use Rattle.bus_signals.specs.Address.{Contents, Bytes}
-use Rattle.part_definitions.specs.Metadata.{counter_bytes, little_endian}
-use Rattle.part_definitions.specs.Request.{ATTESTS}
-use Rattle.part_definitions.specs.Region.{challenge_bytes, mac_bytes, output_bytes}
-use Rattle.part_definitions.specs.Serial.{byte_sent}
+use Rattle.bus_signals.specs.{declared.{access.Access.{Access, TheVariants.Write}, bus_record.BusRecord.BusRecord, event.Event.Event, rule.Rule.Rule, bounds.Bounds.Bounds, version.Version.TheVariants.Two}, Report.ReportFields, Bounds.are_valid, Address.{Contents, Bytes}}
+use Rattle.part_definitions.specs.{Metadata.{counter_bytes, little_endian}, Request.ATTESTS, Region.{challenge_bytes, mac_bytes, output_bytes}, Serial.byte_sent}
 use Rattle.printed_lines.specs.Line.{sent_line, reset_line, report_line, denied_line, end_line}
-use Rattle.device_trace.specs.Logs.{Logs, exec_of, aux_of, logged_byte, logged_bounds}
-use Rattle.device_trace.specs.Progress.{next_pc_of}
-use Rattle.device_trace.specs.Start.{Start}
-use Rattle.device_trace.specs.Step.{next_record}
-use Rattle.device_trace.specs.Trace.{logs_after}
-use Rattle.device_trace.specs.Play.{Play}
+use Rattle.device_trace.specs.{Logs.{Logs, exec_of, aux_of, logged_byte, logged_bounds}, Progress.next_pc_of, Start.Start, Step.next_record, Trace.logs_after, Play.Play}
 
 -- the byte that an access which was not refused sent by the serial port
 abbrev pub byte_sent_by : Option Rule → Option Access → Option ℕ

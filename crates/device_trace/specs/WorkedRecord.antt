@@ -1,17 +1,8 @@
 -- Worked records: what the last step of a play leaves, as a whole.
 use Rattle.std.specs.Prelude.{◌≡◌, ℕ, false, List, [], ◌∷◌, map, replicate, Option, Some, None}
 use Rattle.word_arith.specs.declared.size.Size.TheVariants.{Word}
-use Rattle.bus_signals.specs.declared.access.Access.{Access}
-use Rattle.bus_signals.specs.declared.access.Access.TheVariants.{Fetch, Read, Write}
-use Rattle.bus_signals.specs.declared.bus_record.BusRecord.{BusRecord}
-use Rattle.bus_signals.specs.declared.event.Event.TheVariants.{Dma, Reset}
-use Rattle.bus_signals.specs.declared.kind.Kind.TheVariants.{Cpu}
-use Rattle.bus_signals.specs.declared.rule.Rule.{Rule}
-use Rattle.bus_signals.specs.declared.rule.Rule.TheVariants.{X0, K1, K4}
-use Rattle.bus_signals.specs.Address.{Contents}
-use Rattle.device_trace.specs.Example.{start_with, quiet_steps, event_after, letter_a, key_reader, rewritten_program}
-use Rattle.device_trace.specs.Trace.{last_record, trace}
-use Rattle.device_trace.specs.Play.{Play}
+use Rattle.bus_signals.specs.{declared.{access.Access.{Access, TheVariants.{Fetch, Read, Write}}, bus_record.BusRecord.BusRecord, event.Event.TheVariants.{Dma, Reset}, kind.Kind.TheVariants.Cpu, rule.Rule.{Rule, TheVariants.{X0, K1, K4}}}, Address.Contents}
+use Rattle.device_trace.specs.{Example.{start_with, quiet_steps, event_after, letter_a, key_reader, rewritten_program}, Trace.{last_record, trace}, Play.Play}
 
 -- an image, its play, and the last record
 pub record WorkedRecord : Type 0 where

@@ -1,5 +1,4 @@
-ghost use Rattle.device_trace.specs.WorkedPlay.{PrintTheirTexts, program_plays, dma_plays, refused_plays, attested_plays, flag_plays};
-ghost use Rattle.device_trace.specs.WorkedRecord.{LeaveTheirRecords, worked_records};
+ghost use Rattle.device_trace.specs.{WorkedPlay.{PrintTheirTexts, program_plays, dma_plays, refused_plays, attested_plays, flag_plays}, WorkedRecord.{LeaveTheirRecords, worked_records}};
 
 /// Programs that send, sleep, are interrupted, and are reset by the script.
 pub fn programs_print_their_texts()

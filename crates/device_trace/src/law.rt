@@ -1,8 +1,5 @@
 ghost use Rattle.std.specs.Prelude.{All};
-ghost use Rattle.device_trace.specs.Start.{Start};
-ghost use Rattle.device_trace.specs.AccessesAreFormed.{AccessesAreFormed};
-ghost use Rattle.device_trace.specs.Trace.{trace};
-ghost use Rattle.device_trace.specs.Play.{Play};
+ghost use Rattle.device_trace.specs.{Start.Start, AccessesAreFormed.AccessesAreFormed, Trace.trace, Play.Play};
 
 /// In each record of each play a word access has an even address, and a byte write carries one
 /// byte.

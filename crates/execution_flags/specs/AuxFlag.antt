@@ -1,8 +1,7 @@
 -- The second flag is a flag of a run.
 use Rattle.std.specs.Prelude.{◌≡◌, refl}
-use Rattle.bus_signals.specs.SeenRecord.{SeenHistory}
+use Rattle.bus_signals.specs.{SeenRecord.SeenHistory, ExecFlag.is_set}
 use Rattle.part_definitions.specs.TrustedFlag.{aux, clears_aux}
-use Rattle.bus_signals.specs.ExecFlag.{is_set}
 
 pub aux-of_run : (records : SeenHistory) → aux records ≡ is_set clears_aux records
 unfolding aux

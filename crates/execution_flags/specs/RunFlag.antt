@@ -1,9 +1,8 @@
 -- A flag of a run, and which records it stands for having seen.
 use Rattle.std.specs.Prelude.{◌≡◌, Bool}
 use Rattle.std.proofs.Common.{◌∙◌, sym}
-use Rattle.bus_signals.specs.SeenRecord.{SeenHistory}
+use Rattle.bus_signals.specs.{SeenRecord.SeenHistory, TraceFlag.Flag}
 use Rattle.execution_flags.specs.declared.run_flag.RunFlag.{RunFlag}
-use Rattle.bus_signals.specs.TraceFlag.{Flag}
 
 -- the flag is as these records, the newest first, left it
 abbrev pub RunFlagStandsFor :

@@ -1,6 +1,5 @@
 ghost use Rattle.std.specs.Prelude.{◌≡◌, true, false, is_none};
-ghost use Rattle.bus_signals.specs.declared.bounds.Bounds.{Bounds as SeenBounds};
-ghost use Rattle.bus_signals.specs.TraceFlag.{IsRecordOf};
+ghost use Rattle.bus_signals.specs.{declared.bounds.Bounds.Bounds as SeenBounds, TraceFlag.IsRecordOf};
 ghost use Rattle.part_definitions.specs.TrustedFlag.{reads_vector, handler_read, enters_elsewhere, clears_f3, clears_f4, clears_f10, clears_aux};
 
 use crate::clearing::{clears_both, enters_region, has_write_to, runs_inside, writes_to};

@@ -1,7 +1,5 @@
 ghost use Rattle.std.specs.Prelude.{◌≡◌, true, false, Option};
-ghost use Rattle.bus_signals.specs.declared.bus_record.BusRecord.{BusRecord};
-ghost use Rattle.bus_signals.specs.ExecFlag.{clears_e4};
-ghost use Rattle.bus_signals.specs.TraceFlag.{IsRecordOf, is_quiet};
+ghost use Rattle.bus_signals.specs.{declared.bus_record.BusRecord.BusRecord, ExecFlag.clears_e4, TraceFlag.{IsRecordOf, is_quiet}};
 
 use crate::clearing::{fetches_outside, ran_inside, writes_to};
 use bus_signals::{Bounds, META, Signals};

@@ -1,6 +1,5 @@
 ghost use Rattle.std.specs.Prelude.{◌≡◌, ◌&&◌};
-ghost use Rattle.bus_signals.specs.Bounds.{are_valid};
-ghost use Rattle.bus_signals.specs.ExecFlag.{is_opcode_fetch, fetches_first, starts_run};
+ghost use Rattle.bus_signals.specs.{Bounds.are_valid, ExecFlag.{is_opcode_fetch, fetches_first, starts_run}};
 
 use bus_signals::{Access, Bounds, BusRecord, Kind, valid};
 

@@ -9,9 +9,7 @@ use Rattle.std.proofs.lemmas.Bool.Decides.{eqb_tells}
 use Rattle.hex.specs.declared.error.FromHexError.{FromHexError}
 use Rattle.hex.specs.Hex.{decode_sized, IsBytes}
 use Rattle.hex.proofs.HexLemmas.{decode_sized-ok, decode_sized-twice, decode_of-ok}
-use Rattle.text_scan.specs.declared.fault_kind.FaultKind.{FaultKind}
-use Rattle.text_scan.specs.declared.fault_kind.FaultKind.TheVariants.{Digit, Count}
-use Rattle.text_scan.specs.Hexadecimal.{or_count, hex_bytes_of}
+use Rattle.text_scan.specs.{declared.fault_kind.FaultKind.{FaultKind, TheVariants.{Digit, Count}}, Hexadecimal.{or_count, hex_bytes_of}}
 use Rattle.hex_loader.specs.HexRecord.{record_of_bytes, record_or_fault}
 
 -- bytes that are more than any record has

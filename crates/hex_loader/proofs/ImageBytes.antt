@@ -4,14 +4,10 @@ use Rattle.std.specs.Option.{option_or}
 use Rattle.std.specs.Result.{result_unwrap_or}
 use Rattle.std.specs.Str.Lines.{lines}
 use Rattle.hex.specs.Hex.{IsBytes}
-use Rattle.text_scan.specs.declared.fault_at.FaultAt.{FaultAt}
-use Rattle.text_scan.specs.declared.fault_kind.FaultKind.{FaultKind}
-use Rattle.text_scan.specs.Hexadecimal.{hex_bytes_of}
+use Rattle.text_scan.specs.{declared.{fault_at.FaultAt.FaultAt, fault_kind.FaultKind.FaultKind}, Hexadecimal.hex_bytes_of, Reader.value_or_fault}
 use Rattle.text_scan.proofs.HexBytes.{hex_bytes_of-ok}
 use Rattle.mem_map.specs.ByteAmong.{byte_among}
-use Rattle.text_scan.specs.Reader.{value_or_fault}
-use Rattle.hex_loader.specs.HexImage.{byte_placed, last_byte_placed, base_after, hex_byte, hex_fault, image_of}
-use Rattle.hex_loader.specs.HexRecord.{Meaning, Places, EndOfFile, SetsBase, Starts, with_count, record_of_type, record_of_bytes, record_or_fault, record_in, big_endian}
+use Rattle.hex_loader.specs.{HexImage.{byte_placed, last_byte_placed, base_after, hex_byte, hex_fault, image_of}, HexRecord.{Meaning, Places, EndOfFile, SetsBase, Starts, with_count, record_of_type, record_of_bytes, record_or_fault, record_in, big_endian}}
 
 no_bytes : IsBytes []
 no_bytes i = omega arith

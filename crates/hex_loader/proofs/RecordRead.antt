@@ -5,11 +5,8 @@ use Rattle.std.proofs.lemmas.List.Sums.{sum_by-append}
 use Rattle.std.proofs.Math.Seq.{take-append_seam}
 use Rattle.hex.specs.Hex.{encode_upper, upper_digits, decode_sized, IsBytes}
 use Rattle.hex.proofs.HexLemmas.{decode_sized-twice, decode_of-encode_upper, length-encode_with}
-use Rattle.text_scan.specs.declared.fault_kind.FaultKind.{FaultKind}
-use Rattle.text_scan.specs.declared.fault_kind.FaultKind.TheVariants.{Count, Check}
-use Rattle.text_scan.specs.Hexadecimal.{hex_bytes_of}
-use Rattle.hex_loader.specs.HexRecord.{Meaning, Places, record_in, record_of_bytes, record_of_type, record_or_fault, big_endian}
-use Rattle.hex_loader.specs.HexText.{check_of, data_record}
+use Rattle.text_scan.specs.{declared.fault_kind.FaultKind.{FaultKind, TheVariants.{Count, Check}}, Hexadecimal.hex_bytes_of}
+use Rattle.hex_loader.specs.{HexRecord.{Meaning, Places, record_in, record_of_bytes, record_of_type, record_or_fault, big_endian}, HexText.{check_of, data_record}}
 use Rattle.hex_loader.proofs.UpperDigits.{hexdigits-encoded}
 
 -- the line of a record, without its end

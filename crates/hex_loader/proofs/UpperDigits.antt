@@ -7,8 +7,7 @@ use Rattle.std.specs.Str.Lines.{lines}
 use Rattle.std.proofs.lemmas.Bool.{leb-true}
 use Rattle.std.proofs.lemmas.List.Sums.{AllPass-from_list_all}
 use Rattle.hex.specs.Hex.{encode_with, upper_digits, IsBytes}
-use Rattle.text_scan.proofs.EncodedDigits.{encoded_pass}
-use Rattle.text_scan.proofs.FirstLine.{lines-line}
+use Rattle.text_scan.proofs.{EncodedDigits.encoded_pass, FirstLine.lines-line}
 
 -- digits and the colon lie behind CR and LF
 abbrev pub Behind : List ℕ → Type 0

@@ -2,10 +2,7 @@
 use Rattle.std.specs.Prelude.{◌+◌, ◌&&◌, ◌||◌, ℕ, Bool, true, false, List, [], ◌∷◌, length, reverse, if◌then◌else◌, Option, Some, None, unwrap_or, Result, Ok, Err}
 use Rattle.std.specs.Option.{option_or}
 use Rattle.std.specs.Str.Lines.{lines}
-use Rattle.text_scan.specs.declared.fault_at.FaultAt.{FaultAt}
-use Rattle.text_scan.specs.declared.fault_kind.FaultKind.{FaultKind}
-use Rattle.text_scan.specs.declared.fault_kind.FaultKind.TheVariants.{AfterEnd, NoEnd, Place}
-use Rattle.text_scan.specs.Reader.{value_or_fault}
+use Rattle.text_scan.specs.{declared.{fault_at.FaultAt.FaultAt, fault_kind.FaultKind.{FaultKind, TheVariants.{AfterEnd, NoEnd, Place}}}, Reader.value_or_fault}
 use Rattle.part_definitions.specs.Memory.{is_image_place}
 use Rattle.mem_map.specs.ByteAmong.{byte_among}
 use Rattle.hex_loader.specs.HexRecord.{Meaning, Places, EndOfFile, SetsBase, record_in}

@@ -1,8 +1,6 @@
 -- A record of Intel HEX: a colon and pairs of digits for count, address, type, data and check.
 use Rattle.std.specs.Prelude.{◌≡◌, ◌+◌, ◌*◌, ◌/◌, ◌%◌, ◌==◌, ◌||◌, ℕ, List, [], ◌∷◌, length, take, drop, sum, slice_index, if◌then◌else◌, Result, Ok, Err}
-use Rattle.text_scan.specs.declared.fault_kind.FaultKind.{FaultKind}
-use Rattle.text_scan.specs.declared.fault_kind.FaultKind.TheVariants.{NoColon, Count, Check, RecordType}
-use Rattle.text_scan.specs.Hexadecimal.{hex_bytes_of}
+use Rattle.text_scan.specs.{declared.fault_kind.FaultKind.{FaultKind, TheVariants.{NoColon, Count, Check, RecordType}}, Hexadecimal.hex_bytes_of}
 use Rattle.hex_loader.specs.declared.hex_record.HexRecord.{HexRecord}
 use Rattle.hex_loader.specs.declared.hex_record.HexRecord.TheVariants as variants
 

@@ -1,8 +1,7 @@
 -- The bytes of a memory as an image.
 use Rattle.std.specs.Prelude.{◌≡◌, ℕ, List, Option, Some, None, if◌then◌else◌}
 use Rattle.part_definitions.specs.Memory.{PowerOn, ShownFlags, MemoryWrite, is_image_place, byte_at}
-use Rattle.mem_map.specs.declared.memory.Memory.{Memory}
-use Rattle.mem_map.specs.Memory.{MemoryStandsFor}
+use Rattle.mem_map.specs.{declared.memory.Memory.Memory, Memory.MemoryStandsFor}
 
 -- a byte for each place of RAM, program and vectors
 abbrev pub image_of : PowerOn → ShownFlags → List MemoryWrite → ℕ → Option ℕ

@@ -1,8 +1,7 @@
 -- What is written is read again.
 use Rattle.std.specs.Prelude.{◌≡◌, ℕ, Option, None}
 use Rattle.mem_map.specs.ImagePlace.{IsImage}
-use Rattle.hex_loader.specs.HexImage.{hex_fault, hex_byte}
-use Rattle.hex_loader.specs.HexText.{hex_text}
+use Rattle.hex_loader.specs.{HexImage.{hex_fault, hex_byte}, HexText.hex_text}
 
 -- the text of an image has no fault, and its image is that image
 abbrev pub ReadsBack : (ℕ → Option ℕ) → Type 0

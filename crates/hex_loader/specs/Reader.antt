@@ -1,8 +1,7 @@
 -- What a reader in the midst of a text stands for.
 use Rattle.std.specs.Prelude.{◌≡◌, ℕ, List}
 use Rattle.mem_map.specs.Image.{byte_in}
-use Rattle.hex_loader.specs.declared.reader.Reader.{Reader}
-use Rattle.hex_loader.specs.HexImage.{base_after, has_ended, last_byte_placed}
+use Rattle.hex_loader.specs.{declared.reader.Reader.Reader, HexImage.{base_after, has_ended, last_byte_placed}}
 
 -- the reader has read these lines, newest first
 pub record ReaderStandsFor (reader : Reader) (lines : List (List ℕ)) : Type 0 where

@@ -1,11 +1,8 @@
 ghost use Rattle.std.specs.Prelude.{ℕ, List, Option};
 ghost use Rattle.part_definitions.specs.Memory.{PowerOn, ShownFlags, MemoryWrite};
-ghost use Rattle.mem_map.specs.Image.{byte_in};
-ghost use Rattle.mem_map.specs.Memory.{MemoryStandsFor};
+ghost use Rattle.mem_map.specs.{Image.byte_in, Memory.MemoryStandsFor};
 ghost use Rattle.outside_edge.specs.Sink.{Puts, CountsFaults};
-ghost use Rattle.hex_loader.specs.HexText.{line_at, hex_text};
-ghost use Rattle.hex_loader.specs.ReadBack.{ReadsBack};
-ghost use Rattle.hex_loader.specs.MemoryImage.{image_of};
+ghost use Rattle.hex_loader.specs.{HexText.{line_at, hex_text}, ReadBack.ReadsBack, MemoryImage.image_of};
 
 use crate::law::reads_back;
 use crate::places::{Places, is_record_start, record_bytes};

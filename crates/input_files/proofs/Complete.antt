@@ -1,9 +1,6 @@
 -- Where files and input are told, and no file is refused or failed.
 use Rattle.std.proofs.Common.{◌≡◌, ℕ, List, Option, Some, None, IfSome, refl, inl, inr, subst}
-use Rattle.input_files.specs.declared.status.Status.{Status}
-use Rattle.input_files.specs.declared.status.Status.TheVariants.{Memory}
-use Rattle.input_files.specs.Reading.{Files, IsFailure, IsRefusal, Refuses, first_refusal}
-use Rattle.input_files.specs.Row.{RowOf}
+use Rattle.input_files.specs.{declared.status.Status.{Status, TheVariants.Memory}, Reading.{Files, IsFailure, IsRefusal, Refuses, first_refusal}, Row.RowOf}
 use Rattle.input_files.proofs.Refused.{failed-counted}
 
 -- what holds there of an input of few bytes

@@ -3,18 +3,11 @@ use Rattle.std.proofs.Common.{◌≡◌, ◌<◌, ◌≤◌, ℕ, suc, List, Opt
 use Rattle.std.specs.Prelude.{IsSomeAnd}
 use Rattle.std.proofs.lemmas.Bool.{lt-ltb, le-ltb}
 use Rattle.std.proofs.lemmas.List.{length-replicate}
-use Rattle.outside_edge.specs.Count.{Rose}
-use Rattle.outside_edge.specs.File.{file_of, HasFile, Finds}
-use Rattle.outside_edge.specs.Shelf.{KeepsFiles}
-use Rattle.outside_edge.specs.declared.file_fault.FileFault.{FileFault}
+use Rattle.outside_edge.specs.{Count.Rose, File.{file_of, HasFile, Finds}, Shelf.KeepsFiles, declared.file_fault.FileFault.FileFault}
 use Rattle.outside_edge.specs.declared.file_fault.FileFault.TheVariants as file
-use Rattle.text_scan.specs.declared.fault_at.FaultAt.{FaultAt}
-use Rattle.text_scan.specs.declared.fault_kind.FaultKind.TheVariants.{TooLong}
-use Rattle.input_files.specs.declared.refusal.Refusal.{Refusal}
-use Rattle.input_files.specs.declared.status.Status.{Status}
+use Rattle.text_scan.specs.{declared.{fault_at.FaultAt.FaultAt, fault_kind.FaultKind.TheVariants.TooLong}}
+use Rattle.input_files.specs.{declared.{refusal.Refusal.Refusal, status.Status.Status}, Row.{FileKind, RowOf, read_file, file_value}, Reading.{Files, Leaves, ParsesAs, Reaches, Reads, Refuses, first_refusal, refusal_of}}
 use Rattle.input_files.specs.declared.status.Status.TheVariants as status
-use Rattle.input_files.specs.Row.{FileKind, RowOf, read_file, file_value}
-use Rattle.input_files.specs.Reading.{Files, Leaves, ParsesAs, Reaches, Reads, Refuses, first_refusal, refusal_of}
 
 -- past its limit a file has its fault at line 0
 longer-value : {M : Type 0} (kind : FileKind M) (bytes : List ℕ) → kind.limit < length bytes

@@ -1,14 +1,9 @@
 -- Files that are read after others.
 use Rattle.std.proofs.Common.{◌≡◌, ◌∙◌, ℕ, Some, None, IfSome, Result, Ok, Err, subst, inl, inr, arith}
 use Rattle.std.specs.Prelude.{IsErrAnd}
-use Rattle.outside_edge.specs.Count.{Rose}
-use Rattle.outside_edge.specs.Shelf.{KeepsFiles}
+use Rattle.outside_edge.specs.{Count.Rose, Shelf.KeepsFiles}
 use Rattle.outside_edge.proofs.Counts.{rose_since}
-use Rattle.input_files.specs.declared.refusal.Refusal.{Refusal}
-use Rattle.input_files.specs.declared.status.Status.{Status}
-use Rattle.input_files.specs.Row.{RowOf}
-use Rattle.input_files.specs.Reading.{Files, IsRefusal, Leaves, Reads, Refuses, first_refusal}
-use Rattle.input_files.specs.Status.{status_of_refusal}
+use Rattle.input_files.specs.{declared.{refusal.Refusal.Refusal, status.Status.Status}, Row.RowOf, Reading.{Files, IsRefusal, Leaves, Reads, Refuses, first_refusal}, Status.status_of_refusal}
 
 refusal-both : {Outcome : Type 0} (files : Files) (row middle rest : RowOf Outcome)
     → IfSome files (λ contents. first_refusal row contents ≡ first_refusal middle contents)

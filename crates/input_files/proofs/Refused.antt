@@ -1,10 +1,6 @@
 -- What a refusal is not, and what it counts.
 use Rattle.std.proofs.Common.{◌≡◌, inl, inr, rules}
-use Rattle.input_files.specs.declared.refusal.Refusal.{Refusal}
-use Rattle.input_files.specs.declared.status.Status.TheVariants.{ReadFault, Spent, Words}
-use Rattle.input_files.specs.Reading.{Files, IsRefusal}
-use Rattle.input_files.specs.Row.{RowOf}
-use Rattle.input_files.specs.Status.{status_of_refusal}
+use Rattle.input_files.specs.{declared.{refusal.Refusal.Refusal, status.Status.TheVariants.{ReadFault, Spent, Words}}, Reading.{Files, IsRefusal}, Row.RowOf, Status.status_of_refusal}
 
 -- files that were refused have not spent the input
 pub refused-spent : (refusal : Refusal) → status_of_refusal refusal ≡ Spent → ⊥

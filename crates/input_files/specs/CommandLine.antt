@@ -7,9 +7,7 @@ use Rattle.std.specs.declared.io.Error.{Error}
 use Rattle.std.specs.declared.io.ErrorKind.{ErrorKind}
 use Rattle.std.specs.declared.io.ErrorKind.TheVariants.{InvalidData}
 use Rattle.std.specs.declared.vec.IntoIter.{IntoIter}
-use Rattle.input_files.specs.Argument.{texts}
-use Rattle.input_files.specs.declared.status.Status.{Status}
-use Rattle.input_files.specs.declared.status.Status.TheVariants.{Words, Memory}
+use Rattle.input_files.specs.{Argument.texts, declared.status.Status.{Status, TheVariants.{Words, Memory}}}
 
 -- its words, the first of which is the program's name; or the system's error where it has none
 abbrev pub CommandLine : Type 0

@@ -1,14 +1,11 @@
 -- The kinds of file that several commands read.
 use Rattle.std.specs.Prelude.{ℕ, List, Option}
 use Rattle.hex_loader.specs.HexImage.{image_of}
-use Rattle.play_script.specs.Grammar.{script_of}
-use Rattle.play_script.specs.Script.{TimedEvent}
-use Rattle.report_verifier.specs.Policy.{PolicyFields}
-use Rattle.report_verifier.specs.PolicyGrammar.{policy_of}
+use Rattle.play_script.specs.{Grammar.script_of, Script.TimedEvent}
+use Rattle.report_verifier.specs.{Policy.PolicyFields, PolicyGrammar.policy_of}
 use Rattle.text_scan.specs.Key.{key_of}
 use Rattle.input_files.specs.declared.bad_file.BadFile.TheVariants as bad
-use Rattle.input_files.specs.Limit.{key_limit, policy_limit, text_limit}
-use Rattle.input_files.specs.Row.{FileKind}
+use Rattle.input_files.specs.{Limit.{key_limit, policy_limit, text_limit}, Row.FileKind}
 
 -- an image gives the byte at each place that has one
 abbrev pub image_kind : FileKind (ℕ → Option ℕ)

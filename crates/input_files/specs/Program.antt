@@ -2,9 +2,7 @@
 use Rattle.std.specs.Prelude.{◌≡◌, ◌⊎◌, ℕ, List, [], ◌∷◌, Option, Some, None, Ok, Err, bytes_eq, codes, if◌then◌else◌}
 use Rattle.std.specs.IoError.{error_kind}
 use Rattle.outside_edge.specs.Sink.{Takes, TakesPrefix}
-use Rattle.input_files.specs.CommandLine.{CommandLine, arguments_in, refused_words}
-use Rattle.input_files.specs.declared.status.Status.{Status}
-use Rattle.input_files.specs.declared.status.Status.TheVariants.{Done, WriteFault, Memory}
+use Rattle.input_files.specs.{CommandLine.{CommandLine, arguments_in, refused_words}, declared.status.Status.{Status, TheVariants.{Done, WriteFault, Memory}}}
 
 -- what it prints of itself: its help or its version, where that word stands alone
 abbrev pub own_text_of : List ℕ → List ℕ → List (List ℕ) → Option (List ℕ)

@@ -1,20 +1,11 @@
 -- What the reading of a row's files gives.
 use Rattle.std.specs.Prelude.{◌≡◌, ◌⊎◌, ℕ, List, Option, Some, None, IfSome, Result, Ok, Err, IfOk, IfErr, option_map, unwrap_or}
-use Rattle.outside_edge.specs.Count.{Rose}
-use Rattle.outside_edge.specs.File.{file_of, Finds}
-use Rattle.outside_edge.specs.Shelf.{KeepsFiles}
-use Rattle.outside_edge.specs.declared.file_fault.FileFault.{FileFault}
+use Rattle.outside_edge.specs.{Count.Rose, File.{file_of, Finds}, Shelf.KeepsFiles, declared.file_fault.FileFault.FileFault}
 use Rattle.outside_edge.specs.declared.file_fault.FileFault.TheVariants as file
 use Rattle.outside_edge.specs.declared.shelf.Shelf as shelves
-use Rattle.text_scan.specs.declared.fault_at.FaultAt.{FaultAt}
-use Rattle.text_scan.specs.declared.fault_kind.FaultKind.TheVariants.{TooLong}
-use Rattle.input_files.specs.declared.bad_file.BadFile.{BadFile}
-use Rattle.input_files.specs.declared.refusal.Refusal.{Refusal}
+use Rattle.text_scan.specs.{declared.{fault_at.FaultAt.FaultAt, fault_kind.FaultKind.TheVariants.TooLong}}
+use Rattle.input_files.specs.{declared.{bad_file.BadFile.BadFile, refusal.Refusal.Refusal, status.Status.{Status, TheVariants.{Absent, ReadFault, Memory, Bad}}}, Row.{FileKind, RowOf, Ends, Reads as Reading}, Status.status_of_refusal}
 use Rattle.input_files.specs.declared.refusal.Refusal.TheVariants as refusal
-use Rattle.input_files.specs.declared.status.Status.{Status}
-use Rattle.input_files.specs.declared.status.Status.TheVariants.{Absent, ReadFault, Memory, Bad}
-use Rattle.input_files.specs.Row.{FileKind, RowOf, Ends, Reads as Reading}
-use Rattle.input_files.specs.Status.{status_of_refusal}
 
 -- files by their names, where a shelf tells them
 abbrev pub Files : Type 0

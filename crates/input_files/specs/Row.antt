@@ -1,7 +1,6 @@
 -- A row: the files that are read, one after the other, and what they lead to.
 use Rattle.std.specs.Prelude.{ℕ, List, length, Result, Ok, Err, if◌then◌else◌, nat_lt}
-use Rattle.text_scan.specs.declared.fault_at.FaultAt.{FaultAt}
-use Rattle.text_scan.specs.declared.fault_kind.FaultKind.TheVariants.{TooLong}
+use Rattle.text_scan.specs.{declared.{fault_at.FaultAt.FaultAt, fault_kind.FaultKind.TheVariants.TooLong}}
 use Rattle.input_files.specs.declared.bad_file.BadFile.{BadFile}
 
 -- a row ends with an outcome or a file's first fault, or reads a file and goes on with its bytes

@@ -1,11 +1,8 @@
 -- How a run can end: its exit status, and what it answers to files that have no values.
 use Rattle.std.specs.Prelude.{◌≡◌, ℕ}
-use Rattle.input_files.specs.declared.bad_file.BadFile.{BadFile}
+use Rattle.input_files.specs.{declared.{bad_file.BadFile.BadFile, refusal.Refusal.Refusal, status.Status.{Status, TheVariants.{Done, Rejected, Words, Absent, ReadFault, WriteFault, Memory, Bad, Spent, BadMemory, InUse, Unwritten}}}}
 use Rattle.input_files.specs.declared.bad_file.BadFile.TheVariants as bad
-use Rattle.input_files.specs.declared.refusal.Refusal.{Refusal}
 use Rattle.input_files.specs.declared.refusal.Refusal.TheVariants as refusal
-use Rattle.input_files.specs.declared.status.Status.{Status}
-use Rattle.input_files.specs.declared.status.Status.TheVariants.{Done, Rejected, Words, Absent, ReadFault, WriteFault, Memory, Bad, Spent, BadMemory, InUse, Unwritten}
 
 -- the exit status that says which kind of file has a fault
 abbrev pub code_of_file : BadFile → ℕ

@@ -6,8 +6,7 @@ use std::alloc::Global;
 /// Files that are read one after the other. A pair reads its first and then its second, and `()`
 /// reads none.
 pub trait Inputs {
-    ghost use Rattle.input_files.specs.Row.{RowOf};
-    ghost use Rattle.input_files.specs.Reading.{Reads};
+    ghost use Rattle.input_files.specs.{Row.RowOf, Reading.Reads};
 
     /// Their values.
     type Values: Drop;

@@ -1,6 +1,5 @@
 ghost use Rattle.std.specs.Process.{exit_status};
-ghost use Rattle.input_files.specs.Program.{IsAnswer};
-ghost use Rattle.input_files.specs.Status.{EndsAs};
+ghost use Rattle.input_files.specs.{Program.IsAnswer, Status.EndsAs};
 
 use crate::command_line::arguments_of;
 use crate::own_texts::{OwnTexts, print_text};
@@ -14,8 +13,7 @@ use std::process::ExitCode;
 /// A program, as it runs the arguments that ask for no text of its own.
 pub trait Program {
     ghost use Rattle.std.specs.Prelude.{ℕ, List};
-    ghost use Rattle.input_files.specs.Argument.{texts};
-    ghost use Rattle.input_files.specs.declared.status.Status.{Status};
+    ghost use Rattle.input_files.specs.{Argument.texts, declared.status.Status.Status};
 
     /// It may answer these arguments so.
     ghost may_answer: { Self → List (List ℕ) → Status → Type 0 };

@@ -2,18 +2,10 @@
 use Rattle.std.proofs.Common.{◌≡◌, ℕ, false, List, Option, Some, None, IfSome, map, refl, ap, sym, ◌∙◌}
 use Rattle.std.proofs.lemmas.Bool.{cond-false, or_from}
 use Rattle.word_arith.specs.declared.size.Size.TheVariants.{Word}
-use Rattle.bus_signals.specs.Access.{IsFormed}
-use Rattle.bus_signals.specs.declared.access.Access.{Access}
-use Rattle.bus_signals.specs.declared.access.Access.TheVariants.{Fetch, Read, Write}
-use Rattle.bus_signals.specs.Map.{touches, some_touches, key_region, stack_region}
+use Rattle.bus_signals.specs.{Access.IsFormed, declared.access.Access.{Access, TheVariants.{Fetch, Read, Write}}, Map.{touches, some_touches, key_region, stack_region}}
 use Rattle.part_definitions.specs.Memory.{byte_at, with_access, memory_read}
-use Rattle.device_trace.specs.Blank.{touches_secrets, SameOutside, blank_access, blank_value}
-use Rattle.device_trace.specs.Logs.{Logs, flags_of}
-use Rattle.device_trace.specs.Start.{Start}
-use Rattle.key_isolation.proofs.Bytes.{hide_write, keyless, byte_at-hide, zero_either}
-use Rattle.key_isolation.proofs.Hiding.{open_start, hide, flags_of-hide}
-use Rattle.key_isolation.proofs.Numbers.{number_at-outside}
-use Rattle.key_isolation.proofs.WrittenBytes.{with_access-hide}
+use Rattle.device_trace.specs.{Blank.{touches_secrets, SameOutside, blank_access, blank_value}, Logs.{Logs, flags_of}, Start.Start}
+use Rattle.key_isolation.proofs.{Bytes.{hide_write, keyless, byte_at-hide, zero_either}, Hiding.{open_start, hide, flags_of-hide}, Numbers.number_at-outside, WrittenBytes.with_access-hide}
 
 -- an access of the DMA that breaks neither K4 nor K5
 pub record SameDma (left right : ℕ → ℕ) (access : Option Access) : Type 0 where

@@ -1,16 +1,9 @@
 -- The isolation of the key, by induction on the play.
 use Rattle.std.proofs.Common.{◌≡◌, ℕ, List, [], ◌∷◌, ◌++◌, refl, ap, sym, ◌∙◌, append_assoc}
 use Rattle.bus_signals.specs.declared.event.Event.{Event}
-use Rattle.device_trace.specs.Play.{Play}
-use Rattle.device_trace.specs.Blank.{blank}
-use Rattle.device_trace.specs.Logs.{Logs, with_events, with_record}
-use Rattle.device_trace.specs.Start.{Start}
-use Rattle.device_trace.specs.Step.{next_record}
-use Rattle.device_trace.specs.Trace.{next_logs, logs_after, trace}
+use Rattle.device_trace.specs.{Play.Play, Blank.blank, Logs.{Logs, with_events, with_record}, Start.Start, Step.next_record, Trace.{next_logs, logs_after, trace}}
 use Rattle.trace_facts.proofs.SoundPlay.{logs_after-sound}
-use Rattle.key_isolation.proofs.Hiding.{open_start, hide}
-use Rattle.key_isolation.proofs.LogsBlank.{step_hides}
-use Rattle.key_isolation.proofs.Projections.{released_words_after-more}
+use Rattle.key_isolation.proofs.{Hiding.{open_start, hide}, LogsBlank.step_hides, Projections.released_words_after-more}
 
 pub record PlayHides (start : Start) (free : List ℕ) (play : Play) : Type 0 where
   pub history : blank (trace start play) ≡ trace (open_start free start) play

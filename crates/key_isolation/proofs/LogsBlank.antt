@@ -1,26 +1,11 @@
 -- The logs after a step without the key are the real ones, hidden.
 use Rattle.std.proofs.Common.{◌≡◌, ℕ, Bool, List, ◌∷◌, ◌++◌, Option, Some, None, map, refl, ap, ◌∙◌}
-use Rattle.bus_signals.specs.declared.access.Access.{Access}
-use Rattle.bus_signals.specs.declared.bus_record.BusRecord.{BusRecord}
-use Rattle.bus_signals.specs.declared.event.Event.{Event}
-use Rattle.bus_signals.specs.declared.rule.Rule.{Rule}
+use Rattle.bus_signals.specs.{declared.{access.Access.Access, bus_record.BusRecord.BusRecord, event.Event.Event, rule.Rule.Rule}, ExecFlag.last_pc}
 use Rattle.part_definitions.specs.FirstRule.{first_rule}
-use Rattle.bus_signals.specs.ExecFlag.{last_pc}
-use Rattle.device_trace.specs.Blank.{blank_access, blank_value, blank_record, blank_seen}
-use Rattle.device_trace.specs.AccessesAreFormed.{AccessesAreFormed}
-use Rattle.device_trace.specs.Level.{level_after}
-use Rattle.device_trace.specs.Logs.{Logs, step_progress, peripherals_after, progress_after, released_words_after, with_events, with_record}
-use Rattle.device_trace.specs.Progress.{Progress, last_registers, next_progress}
-use Rattle.device_trace.specs.Signals.{value_read, step_kind, proposed_access, signals_at, signals_of}
-use Rattle.device_trace.specs.Start.{Start}
-use Rattle.device_trace.specs.Step.{access_recorded, dma_value_read, record_from, record_of, asks_reset, next_record}
-use Rattle.device_trace.specs.Trace.{next_logs}
+use Rattle.device_trace.specs.{Blank.{blank_access, blank_value, blank_record, blank_seen}, AccessesAreFormed.AccessesAreFormed, Level.level_after, Logs.{Logs, step_progress, peripherals_after, progress_after, released_words_after, with_events, with_record}, Progress.{Progress, last_registers, next_progress}, Signals.{value_read, step_kind, proposed_access, signals_at, signals_of}, Start.Start, Step.{access_recorded, dma_value_read, record_from, record_of, asks_reset, next_record}, Trace.next_logs}
 use Rattle.device_trace.proofs.FormedAccess.{record_of-formed}
 use Rattle.trace_facts.proofs.Sound.{IsSound}
-use Rattle.key_isolation.proofs.Hiding.{open_start, hide_progress, hide, vector_of-hide, step_progress-hide, vector_taken-hide, logged_bounds-hide, level_after-hide, decision_after-hide}
-use Rattle.key_isolation.proofs.WrittenBytes.{memory_after-hide}
-use Rattle.key_isolation.proofs.Projections.{with_step-blank, released_words_after-blank}
-use Rattle.key_isolation.proofs.RecordBlank.{SameWithoutRule, unrefused_same, record_of-hide}
+use Rattle.key_isolation.proofs.{Hiding.{open_start, hide_progress, hide, vector_of-hide, step_progress-hide, vector_taken-hide, logged_bounds-hide, level_after-hide, decision_after-hide}, WrittenBytes.memory_after-hide, Projections.{with_step-blank, released_words_after-blank}, RecordBlank.{SameWithoutRule, unrefused_same, record_of-hide}}
 
 -- what the logs need of a record
 pub record FollowsBlank (logs : Logs) (entry : BusRecord) : Type 0 where

@@ -1,12 +1,9 @@
 -- Numbers in memories that are equal outside the secrets.
 use Rattle.std.proofs.Common.{◌≡◌, ℕ, ◌+◌, ◌*◌, ◌/◌, ◌<◌, true, false, refl, arith}
 use Rattle.std.proofs.lemmas.Bool.Decides.{nat_tests}
-use Rattle.word_arith.specs.declared.size.Size.{Size}
-use Rattle.word_arith.specs.declared.size.Size.TheVariants.{Byte, Word}
-use Rattle.bus_signals.specs.declared.access.Access.TheVariants.{Read}
-use Rattle.bus_signals.specs.Map.{lies_in, key_region, stack_region, ER_MIN, ER_MAX, OR_MIN, OR_MAX}
-use Rattle.part_definitions.specs.Memory.{number_from, number_at}
-use Rattle.part_definitions.specs.Metadata.{bounds_in}
+use Rattle.word_arith.specs.{declared.size.Size.{Size, TheVariants.{Byte, Word}}}
+use Rattle.bus_signals.specs.{declared.access.Access.TheVariants.Read, Map.{lies_in, key_region, stack_region, ER_MIN, ER_MAX, OR_MIN, OR_MAX}}
+use Rattle.part_definitions.specs.{Memory.{number_from, number_at}, Metadata.bounds_in}
 use Rattle.device_trace.specs.Blank.{touches_secrets, is_secret, SameOutside}
 
 -- the bytes of an access that touches no secret

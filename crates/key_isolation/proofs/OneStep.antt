@@ -4,30 +4,11 @@ use Rattle.std.proofs.Common.{◌≡◌, ℕ, Bool, true, false, List, [], ◌�
 use Rattle.std.specs.Prelude.{◌==◌, ◌&&◌, ◌||◌, if◌then◌else◌}
 use Rattle.std.proofs.lemmas.Bool.{cond-false}
 use Rattle.word_arith.specs.declared.size.Size.TheVariants.{Word}
-use Rattle.bus_signals.specs.declared.access.Access.{Access}
-use Rattle.bus_signals.specs.declared.access.Access.TheVariants.{Fetch, Read, Write}
-use Rattle.bus_signals.specs.declared.kind.Kind.{Kind}
-use Rattle.bus_signals.specs.declared.kind.Kind.TheVariants.{Rom}
-use Rattle.bus_signals.specs.Access.{some_writes, some_reads}
-use Rattle.bus_signals.specs.Map.{touches, some_touches, key_region, stack_region, ROM_EXIT}
-use Rattle.part_definitions.specs.Attestation.{CallItem, KeyRead, MetadataRead, KeptRead, KeptWrite, DecisionWrite, DerivedKeyWrite, RegionRead, InnerDigestWrite, MacWrite, ReturnRead, region_words, decision_read, call_item, item_access, item_pc, is_return, bounds_read}
-use Rattle.part_definitions.specs.CpuRegister.{sp_of}
-use Rattle.part_definitions.specs.CpuState.{CpuState, cpu_pc}
-use Rattle.part_definitions.specs.MonitorRule.{in_rom}
-use Rattle.device_trace.specs.Blank.{touches_secrets, blank_access, blank_value}
-use Rattle.device_trace.specs.Logs.{Logs, with_released_word, released_words_after}
-use Rattle.device_trace.specs.Progress.{Progress, Held, Runs, InCall, next_pc_of, running_access, access_of, after_return, call_after, next_progress}
-use Rattle.device_trace.specs.Signals.{value_read}
-use Rattle.device_trace.specs.Start.{Start, mac_word}
-use Rattle.key_isolation.proofs.Bytes.{zero_either}
-use Rattle.trace_facts.proofs.Choices.{first_false}
-use Rattle.trace_facts.proofs.Sound.{IsWithin}
-use Rattle.key_isolation.proofs.HiddenWords.{hides_word, hidden_word, rest_shown, hide_words, call_item-hide, hide_words-more}
-use Rattle.key_isolation.proofs.Hiding.{open_start, hide_progress, hide}
-use Rattle.key_isolation.proofs.Reading.{value_read-hide}
-use Rattle.key_isolation.proofs.SignalShape.{item_access-hide}
-use Rattle.trace_facts.proofs.CallPlaces.{ItemFits, item_after-fits}
-use Rattle.key_isolation.proofs.CallStep.{same_item}
+use Rattle.bus_signals.specs.{declared.{access.Access.{Access, TheVariants.{Fetch, Read, Write}}, kind.Kind.{Kind, TheVariants.Rom}}, Access.{some_writes, some_reads}, Map.{touches, some_touches, key_region, stack_region, ROM_EXIT}}
+use Rattle.part_definitions.specs.{Attestation.{CallItem, KeyRead, MetadataRead, KeptRead, KeptWrite, DecisionWrite, DerivedKeyWrite, RegionRead, InnerDigestWrite, MacWrite, ReturnRead, region_words, decision_read, call_item, item_access, item_pc, is_return, bounds_read}, CpuRegister.sp_of, CpuState.{CpuState, cpu_pc}, MonitorRule.in_rom}
+use Rattle.device_trace.specs.{Blank.{touches_secrets, blank_access, blank_value}, Logs.{Logs, with_released_word, released_words_after}, Progress.{Progress, Held, Runs, InCall, next_pc_of, running_access, access_of, after_return, call_after, next_progress}, Signals.value_read, Start.{Start, mac_word}}
+use Rattle.key_isolation.proofs.{Bytes.zero_either, HiddenWords.{hides_word, hidden_word, rest_shown, hide_words, call_item-hide, hide_words-more}, Hiding.{open_start, hide_progress, hide}, Reading.value_read-hide, SignalShape.item_access-hide, CallStep.same_item}
+use Rattle.trace_facts.proofs.{Choices.first_false, Sound.IsWithin, CallPlaces.{ItemFits, item_after-fits}}
 
 -- the rules K1, K2 and A4, of an access and its `pc`
 pub record KeepsSecrets (access : Option Access) (pc : ℕ) : Type 0 where

@@ -2,14 +2,9 @@
 use Rattle.std.proofs.Common.{◌≡◌, ℕ, List, Option, None, IfSome, arith}
 use Rattle.std.specs.Prelude.{IsTrue, IsFalse}
 use Rattle.std.proofs.lemmas.Bool.Decides.{nat_tests}
-use Rattle.bus_signals.specs.declared.access.Access.{Access}
-use Rattle.bus_signals.specs.declared.bus_record.BusRecord.{BusRecord}
-use Rattle.bus_signals.specs.declared.kind.Kind.{Kind}
-use Rattle.bus_signals.specs.declared.kind.Kind.TheVariants.{Rom}
-use Rattle.bus_signals.specs.declared.rule.Rule.{Rule}
+use Rattle.bus_signals.specs.{declared.{access.Access.Access, bus_record.BusRecord.BusRecord, kind.Kind.{Kind, TheVariants.Rom}, rule.Rule.Rule}}
 use Rattle.part_definitions.specs.Memory.{is_image_place}
-use Rattle.device_trace.specs.Blank.{blank_access, blank_value, blank_record, is_secret}
-use Rattle.device_trace.specs.Logs.{with_released_word, released_words_after}
+use Rattle.device_trace.specs.{Blank.{blank_access, blank_value, blank_record, is_secret}, Logs.{with_released_word, released_words_after}}
 use Rattle.key_isolation.specs.Openness.{IsOpen, releases_word}
 
 blank_access-open : (access : Option Access) → IfSome access IsOpen → blank_access access ≡ access

@@ -3,22 +3,11 @@ use Rattle.std.proofs.Common.{◌≡◌, ℕ, true, false, List, Some, refl, not
 use Rattle.std.specs.Prelude.{◌&&◌}
 use Rattle.std.proofs.lemmas.Bool.Decides.{nat_tests}
 use Rattle.std.proofs.Common.{arith}
-use Rattle.word_arith.specs.declared.size.Size.{Size}
-use Rattle.word_arith.specs.declared.size.Size.TheVariants.{Word}
-use Rattle.bus_signals.specs.declared.access.Access.{Access}
-use Rattle.bus_signals.specs.declared.access.Access.TheVariants.{Fetch, Read, Write}
-use Rattle.bus_signals.specs.Map.{lies_in, touches, peripheral_region, key_region, stack_region}
-use Rattle.part_definitions.specs.BusAccess.{fetch_at}
-use Rattle.part_definitions.specs.Memory.{number_at}
-use Rattle.part_definitions.specs.MonitorRule.{in_rom}
-use Rattle.device_trace.specs.Blank.{touches_secrets}
-use Rattle.device_trace.specs.Logs.{Logs, logged_byte}
-use Rattle.device_trace.specs.Peripherals.{peripheral_read}
-use Rattle.device_trace.specs.Signals.{number_read, value_read, word_fetched}
-use Rattle.device_trace.specs.Start.{Start}
-use Rattle.key_isolation.proofs.Bytes.{same_if}
-use Rattle.key_isolation.proofs.Hiding.{open_start, hide, logged_byte-hide}
-use Rattle.key_isolation.proofs.Numbers.{number_at-outside}
+use Rattle.word_arith.specs.{declared.size.Size.{Size, TheVariants.Word}}
+use Rattle.bus_signals.specs.{declared.access.Access.{Access, TheVariants.{Fetch, Read, Write}}, Map.{lies_in, touches, peripheral_region, key_region, stack_region}}
+use Rattle.part_definitions.specs.{BusAccess.fetch_at, Memory.number_at, MonitorRule.in_rom}
+use Rattle.device_trace.specs.{Blank.touches_secrets, Logs.{Logs, logged_byte}, Peripherals.peripheral_read, Signals.{number_read, value_read, word_fetched}, Start.Start}
+use Rattle.key_isolation.proofs.{Bytes.same_if, Hiding.{open_start, hide, logged_byte-hide}, Numbers.number_at-outside}
 
 number_read-hide : (start : Start) (words : List ℕ) (logs : Logs) (place : ℕ) (size : Size)
     → touches_secrets (Read place size) ≡ false

@@ -1,31 +1,11 @@
 -- The record of a step without the key is the real one, blanked.
 use Rattle.std.proofs.Common.{◌≡◌, ℕ, Bool, List, ◌++◌, length, Option, Some, None, refl, ap, sym, ◌∙◌, subst}
-use Rattle.bus_signals.specs.declared.access.Access.{Access}
-use Rattle.bus_signals.specs.declared.access.Access.TheVariants.{Fetch, Read, Write}
-use Rattle.bus_signals.specs.declared.kind.Kind.{Kind}
-use Rattle.bus_signals.specs.declared.rule.Rule.{Rule}
-use Rattle.bus_signals.specs.declared.signals.Signals.{Signals}
-use Rattle.bus_signals.specs.Access.{without_number}
-use Rattle.bus_signals.specs.Map.{touches, stack_region}
-use Rattle.part_definitions.specs.Dma.{dma_access}
-use Rattle.part_definitions.specs.FirstRule.{first_rule}
-use Rattle.bus_signals.specs.ExecFlag.{last_pc}
-use Rattle.device_trace.specs.Blank.{touches_secrets, blank_access, blank_value, blank_record}
-use Rattle.device_trace.specs.Logs.{Logs, step_progress, vector_of, released_words_after}
-use Rattle.device_trace.specs.Progress.{Progress, last_registers, next_pc_of, access_of, next_progress}
-use Rattle.device_trace.specs.Signals.{value_read, step_kind, proposed_access, signals_at, signals_of}
-use Rattle.device_trace.specs.Start.{Start}
-use Rattle.device_trace.specs.Step.{dma_value_read, record_from, record_of}
+use Rattle.bus_signals.specs.{declared.{access.Access.{Access, TheVariants.{Fetch, Read, Write}}, kind.Kind.Kind, rule.Rule.Rule, signals.Signals.Signals}, Access.without_number, Map.{touches, stack_region}, ExecFlag.last_pc}
+use Rattle.part_definitions.specs.{Dma.dma_access, FirstRule.first_rule}
+use Rattle.device_trace.specs.{Blank.{touches_secrets, blank_access, blank_value, blank_record}, Logs.{Logs, step_progress, vector_of, released_words_after}, Progress.{Progress, last_registers, next_pc_of, access_of, next_progress}, Signals.{value_read, step_kind, proposed_access, signals_at, signals_of}, Start.Start, Step.{dma_value_read, record_from, record_of}}
 use Rattle.device_trace.proofs.FormedAccess.{access_of-formed}
-use Rattle.key_isolation.proofs.Bytes.{zero_either}
-use Rattle.trace_facts.proofs.BreaksNoRule.{BreaksNoRule, first_rule-none}
-use Rattle.trace_facts.proofs.Sound.{IsSound, progress_within-right}
-use Rattle.trace_facts.proofs.BlankRecords.{last_pc-blank}
-use Rattle.key_isolation.proofs.Hiding.{open_start, hide_progress, hide, last_registers-hide, step_kind-hide, step_progress-hide}
-use Rattle.key_isolation.proofs.SameRule.{SameSignals, first_rule-same}
-use Rattle.key_isolation.proofs.SignalShape.{signals_of-hide}
-use Rattle.key_isolation.proofs.OneStep.{KeepsSecrets, SameStep, step_same}
-use Rattle.key_isolation.proofs.DmaStep.{dma_same, written-outside}
+use Rattle.key_isolation.proofs.{Bytes.zero_either, Hiding.{open_start, hide_progress, hide, last_registers-hide, step_kind-hide, step_progress-hide}, SameRule.{SameSignals, first_rule-same}, SignalShape.signals_of-hide, OneStep.{KeepsSecrets, SameStep, step_same}, DmaStep.{dma_same, written-outside}}
+use Rattle.trace_facts.proofs.{BreaksNoRule.{BreaksNoRule, first_rule-none}, Sound.{IsSound, progress_within-right}, BlankRecords.last_pc-blank}
 
 -- accesses and values of two records
 pub record SameNumbers (now view : Signals) (read read' dma_read dma_read' : ℕ) : Type 0 where

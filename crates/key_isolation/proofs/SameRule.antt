@@ -2,15 +2,9 @@
 -- word only where no key rule is broken.
 use Rattle.std.proofs.Common.{arith, ◌≡◌, ℕ, Bool, true, false, Option, Some, None, refl, ap, sym, ◌∙◌}
 use Rattle.std.specs.Prelude.{◌&&◌}
-use Rattle.bus_signals.specs.declared.access.Access.{Access}
-use Rattle.bus_signals.specs.declared.rule.Rule.{Rule}
-use Rattle.bus_signals.specs.declared.rule.Rule.TheVariants.{X0, I1}
-use Rattle.bus_signals.specs.declared.signals.Signals.{Signals}
-use Rattle.bus_signals.specs.Access.{without_number}
+use Rattle.bus_signals.specs.{declared.{access.Access.Access, rule.Rule.{Rule, TheVariants.{X0, I1}}, signals.Signals.Signals}, Access.without_number}
 use Rattle.std.specs.Option.{option_or}
-use Rattle.part_definitions.specs.FirstRule.{rule_where, first_rule}
-use Rattle.part_definitions.specs.NextAccess.{is_illegal}
-use Rattle.part_definitions.specs.MonitorRule.{key_rule, atomicity_rule}
+use Rattle.part_definitions.specs.{FirstRule.{rule_where, first_rule}, NextAccess.is_illegal, MonitorRule.{key_rule, atomicity_rule}}
 
 pub record SameSignals (view real : Signals) : Type 0 where
   pub kind : view.kind ≡ real.kind

@@ -1,28 +1,11 @@
 -- With the secrets hidden the next step is about to do the same, but for what the rules do not see.
 use Rattle.std.proofs.Common.{arith, ◌≡◌, ℕ, Bool, true, false, List, Option, Some, None, length, refl, ap, sym, ◌∙◌, subst, not}
 use Rattle.std.specs.Prelude.{◌&&◌, is_some}
-use Rattle.bus_signals.specs.declared.access.Access.{Access}
-use Rattle.bus_signals.specs.declared.bounds.Bounds.{Bounds}
-use Rattle.bus_signals.specs.declared.kind.Kind.{Kind}
-use Rattle.bus_signals.specs.declared.kind.Kind.TheVariants.{Boot, Cpu, Idle, Irq, Rom}
-use Rattle.bus_signals.specs.Access.{some_writes, without_number}
-use Rattle.bus_signals.specs.Map.{some_touches, key_region, stack_region}
-use Rattle.part_definitions.specs.BusAccess.{fetch_at}
-use Rattle.part_definitions.specs.Attestation.{CallItem, item_access, bounds_read, call_item}
-use Rattle.part_definitions.specs.CpuRegister.{sp_of}
-use Rattle.part_definitions.specs.CpuState.{Boundary, Executing, Entering}
-use Rattle.part_definitions.specs.MonitorRule.{in_rom, key_rule}
-use Rattle.part_definitions.specs.NextAccess.{next_access}
-use Rattle.device_trace.specs.Blank.{touches_secrets}
-use Rattle.device_trace.specs.Logs.{Logs, vector_of, step_progress}
-use Rattle.device_trace.specs.Progress.{Progress, Held, Runs, InCall, next_pc_of, progress_within, access_of, fetches_opcode}
-use Rattle.device_trace.specs.Signals.{word_fetched, step_kind, proposed_access, signals_at, signals_of}
-use Rattle.device_trace.specs.Start.{Start}
+use Rattle.bus_signals.specs.{declared.{access.Access.Access, bounds.Bounds.Bounds, kind.Kind.{Kind, TheVariants.{Boot, Cpu, Idle, Irq, Rom}}}, Access.{some_writes, without_number}, Map.{some_touches, key_region, stack_region}}
+use Rattle.part_definitions.specs.{BusAccess.fetch_at, Attestation.{CallItem, item_access, bounds_read, call_item}, CpuRegister.sp_of, CpuState.{Boundary, Executing, Entering}, MonitorRule.{in_rom, key_rule}, NextAccess.next_access}
+use Rattle.device_trace.specs.{Blank.touches_secrets, Logs.{Logs, vector_of, step_progress}, Progress.{Progress, Held, Runs, InCall, next_pc_of, progress_within, access_of, fetches_opcode}, Signals.{word_fetched, step_kind, proposed_access, signals_at, signals_of}, Start.Start}
 use Rattle.trace_facts.proofs.BreaksNoRule.{BreaksNoKeyRule, key_rule-none}
-use Rattle.key_isolation.proofs.HiddenWords.{hide_words, bounds_read-hide, call_item-hide}
-use Rattle.key_isolation.proofs.Hiding.{open_start, hide_progress, hide, next_pc_of-hide, tells_irq-hide, fetches_opcode-hide, vector_of-hide, step_kind-hide, step_progress-hide}
-use Rattle.key_isolation.proofs.Reading.{fetch_off, word_fetched-hide}
-use Rattle.key_isolation.proofs.SameRule.{SameSignals}
+use Rattle.key_isolation.proofs.{HiddenWords.{hide_words, bounds_read-hide, call_item-hide}, Hiding.{open_start, hide_progress, hide, next_pc_of-hide, tells_irq-hide, fetches_opcode-hide, vector_of-hide, step_kind-hide, step_progress-hide}, Reading.{fetch_off, word_fetched-hide}, SameRule.SameSignals}
 
 -- the accesses differ in the number of a write alone
 item_access-shape : (sp : ℕ) (bounds : Bounds) (item : CallItem) (number number' : ℕ)

@@ -2,32 +2,13 @@
 use Rattle.std.proofs.Common.{◌≡◌, ℕ, zero, suc, ◌+◌, ◌-◌, ◌<◌, ◌≤◌, false, List, [], ◌∷◌, ◌++◌, length, Option, Some, None, inl, inr, refl, ap, sym, ◌∙◌, arith, lit≤}
 use Rattle.std.specs.Prelude.{◌==◌, if◌then◌else◌}
 use Rattle.std.proofs.lemmas.Bool.Decides.{nat_tests}
-use Rattle.bus_signals.specs.declared.bounds.Bounds.{Bounds}
-use Rattle.bus_signals.specs.declared.bus_record.BusRecord.{BusRecord}
-use Rattle.bus_signals.specs.Bounds.{are_valid}
-use Rattle.bus_signals.specs.declared.version.Version.TheVariants.{Two}
-use Rattle.bus_signals.specs.Map.{metadata_region}
-use Rattle.bus_signals.specs.Report.{ReportFields}
+use Rattle.bus_signals.specs.{declared.{bounds.Bounds.Bounds, bus_record.BusRecord.BusRecord, version.Version.TheVariants.Two}, Bounds.are_valid, Map.metadata_region, Report.ReportFields}
 use Rattle.bus_signals.proofs.ValidRange.{IsValidRange, are_valid-ranges}
-use Rattle.part_definitions.specs.Memory.{bytes_from}
-use Rattle.part_definitions.specs.Metadata.{little_endian}
-use Rattle.part_definitions.specs.Region.{output_bytes}
-use Rattle.part_definitions.specs.Request.{ATTESTS}
+use Rattle.part_definitions.specs.{Memory.bytes_from, Metadata.little_endian, Region.output_bytes, Request.ATTESTS}
 use Rattle.printed_lines.specs.Line.{end_line, sent_line, reset_line, report_line, denied_line}
-use Rattle.device_trace.specs.Play.{Play}
-use Rattle.device_trace.specs.Blank.{is_secret, SameOutside, blank_record}
-use Rattle.device_trace.specs.Logs.{Logs, logged_byte, logged_bounds}
-use Rattle.device_trace.specs.Start.{Start}
-use Rattle.device_trace.specs.Step.{next_record}
-use Rattle.device_trace.specs.Text.{reported_output, report_of, report_where, denial_in, some_line, step_lines, lines_of, end_line_after, play_text}
-use Rattle.device_trace.specs.Trace.{next_logs, logs_after}
+use Rattle.device_trace.specs.{Play.Play, Blank.{is_secret, SameOutside, blank_record}, Logs.{Logs, logged_byte, logged_bounds}, Start.Start, Step.next_record, Text.{reported_output, report_of, report_where, denial_in, some_line, step_lines, lines_of, end_line_after, play_text}, Trace.{next_logs, logs_after}}
 use Rattle.trace_facts.proofs.SoundPlay.{logs_after-sound}
-use Rattle.key_isolation.proofs.Bytes.{same_if}
-use Rattle.key_isolation.proofs.FlagBlank.{exec-blank}
-use Rattle.key_isolation.proofs.Hiding.{open_start, hide, next_pc_of-hide, flags_of-hide, logged_byte-hide, logged_bounds-hide}
-use Rattle.key_isolation.proofs.Induction.{play_hides, releases_before}
-use Rattle.key_isolation.proofs.LogsBlank.{step_hides}
-use Rattle.key_isolation.proofs.Projections.{byte_sent_by-blank}
+use Rattle.key_isolation.proofs.{Bytes.same_if, FlagBlank.exec-blank, Hiding.{open_start, hide, next_pc_of-hide, flags_of-hide, logged_byte-hide, logged_bounds-hide}, Induction.{play_hides, releases_before}, LogsBlank.step_hides, Projections.byte_sent_by-blank}
 
 -- bytes of a range with no secret
 bytes_from-outside : (left right : ℕ → ℕ) → SameOutside left right → (place count : ℕ)

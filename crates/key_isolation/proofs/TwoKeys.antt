@@ -1,17 +1,9 @@
 -- A play without its key, and two keys whose released words agree.
 use Rattle.std.proofs.Common.{◌≡◌, ℕ, suc, List, [], ◌∷◌, ◌++◌, refl, ap, sym, ◌∙◌, arith, append-nil, subst}
 use Rattle.bus_signals.specs.declared.bus_record.BusRecord.{BusRecord}
-use Rattle.device_trace.specs.Play.{Play}
-use Rattle.device_trace.specs.Blank.{SameOutside, blank}
-use Rattle.device_trace.specs.Logs.{Logs, logged_byte}
-use Rattle.device_trace.specs.Start.{Start, without_key}
-use Rattle.device_trace.specs.Trace.{byte_after, logs_after, released_words, trace}
-use Rattle.key_isolation.specs.Agreement.{Agree, ReleaseAlike, SameButKey}
-use Rattle.key_isolation.specs.Keyless.{LooksAlike, LooksKeyless, keyless}
-use Rattle.key_isolation.proofs.FlagBlank.{blank_record-twice}
-use Rattle.key_isolation.proofs.Hiding.{open_start, logged_byte-hide}
-use Rattle.key_isolation.proofs.Induction.{play_hides}
-use Rattle.key_isolation.proofs.TextBlank.{play_text-hide}
+use Rattle.device_trace.specs.{Play.Play, Blank.{SameOutside, blank}, Logs.{Logs, logged_byte}, Start.{Start, without_key}, Trace.{byte_after, logs_after, released_words, trace}}
+use Rattle.key_isolation.specs.{Agreement.{Agree, ReleaseAlike, SameButKey}, Keyless.{LooksAlike, LooksKeyless, keyless}}
+use Rattle.key_isolation.proofs.{FlagBlank.blank_record-twice, Hiding.{open_start, logged_byte-hide}, Induction.play_hides, TextBlank.play_text-hide}
 
 -- lists that agree are both beginnings of one list
 record BeginsWithBoth (left right : List ℕ) : Type 0 where

@@ -3,14 +3,9 @@ use Rattle.std.proofs.Common.{◌≡◌, ℕ, ◌+◌, ◌*◌, ◌/◌, ◌%◌
 use Rattle.std.specs.Prelude.{◌||◌, if◌then◌else◌}
 use Rattle.std.proofs.lemmas.Bool.Decides.{nat_tests}
 use Rattle.word_arith.specs.declared.size.Size.TheVariants.{Byte, Word}
-use Rattle.bus_signals.specs.declared.access.Access.{Access}
-use Rattle.bus_signals.specs.declared.access.Access.TheVariants.{Fetch, Read, Write}
-use Rattle.bus_signals.specs.declared.rule.Rule.{Rule}
-use Rattle.bus_signals.specs.Access.{IsFormed}
-use Rattle.bus_signals.specs.Map.{lies_in, touches, stack_region}
+use Rattle.bus_signals.specs.{declared.{access.Access.{Access, TheVariants.{Fetch, Read, Write}}, rule.Rule.Rule}, Access.IsFormed, Map.{lies_in, touches, stack_region}}
 use Rattle.part_definitions.specs.Memory.{MemoryWrite, with_access}
-use Rattle.device_trace.specs.Blank.{blank_access}
-use Rattle.device_trace.specs.Logs.{memory_after}
+use Rattle.device_trace.specs.{Blank.blank_access, Logs.memory_after}
 use Rattle.key_isolation.proofs.Bytes.{hide_write}
 
 -- both bytes of a word lie on one side of the stack's edges

@@ -1,9 +1,7 @@
 -- Devices that differ in the key, and released words that agree.
 use Rattle.std.specs.Prelude.{◌≡◌, ◌<◌, ℕ, List, length, slice_index}
 use Rattle.word_arith.specs.Word16.{Word16}
-use Rattle.device_trace.specs.Start.{Start}
-use Rattle.device_trace.specs.Trace.{released_words}
-use Rattle.device_trace.specs.Play.{Play}
+use Rattle.device_trace.specs.{Start.Start, Trace.released_words, Play.Play}
 
 -- two starts with one image and one second flag
 abbrev pub SameButKey : Start → Start → Type 0

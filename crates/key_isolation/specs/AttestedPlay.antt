@@ -3,11 +3,9 @@
 use Rattle.std.specs.Prelude.{◌++◌, List, [], ◌∷◌, codes}
 use Rattle.word_arith.specs.Word16.{Word16}
 use Rattle.sha2.specs.Sha256.{sha256}
-use Rattle.bus_signals.specs.Address.{Bytes, Contents}
-use Rattle.bus_signals.specs.Map.{COUNTER}
+use Rattle.bus_signals.specs.{Address.{Bytes, Contents}, Map.COUNTER}
 use Rattle.part_definitions.specs.TrustedFlag.{aux}
-use Rattle.device_trace.specs.Example.{attestation_of}
-use Rattle.device_trace.specs.Start.{Start, with_key}
+use Rattle.device_trace.specs.{Example.attestation_of, Start.{Start, with_key}}
 
 -- the token, under the key 00 to 3F, of the challenge of 32 bytes 00 and the counter 1
 abbrev pub token_words : List Word16

@@ -1,11 +1,7 @@
 -- What is seen of a play without its key.
 use Rattle.std.specs.Prelude.{◌≡◌, ◌++◌, List}
 use Rattle.word_arith.specs.Word16.{Word16}
-use Rattle.device_trace.specs.Blank.{SameOutside, blank}
-use Rattle.device_trace.specs.Play.{Play}
-use Rattle.device_trace.specs.Start.{Start, without_key}
-use Rattle.device_trace.specs.Text.{play_text}
-use Rattle.device_trace.specs.Trace.{byte_after, released_words, trace}
+use Rattle.device_trace.specs.{Blank.{SameOutside, blank}, Play.Play, Start.{Start, without_key}, Text.play_text, Trace.{byte_after, released_words, trace}}
 
 -- a start without its key, whose calls release the words that they release in this play, then these
 abbrev pub keyless : Start → Play → List Word16 → Start

@@ -1,12 +1,7 @@
 ghost use Rattle.std.specs.Prelude.{◌≡◌, [], ◌∷◌};
 ghost use Rattle.part_definitions.specs.TrustedFlag.{aux};
-ghost use Rattle.device_trace.specs.Blank.{blank};
-ghost use Rattle.device_trace.specs.Start.{without_key};
-ghost use Rattle.device_trace.specs.Text.{play_text};
-ghost use Rattle.device_trace.specs.Trace.{released_words, trace};
-ghost use Rattle.device_trace.specs.Example.{counting_words, upwards};
-ghost use Rattle.key_isolation.specs.AttestedPlay.{attested_text, attested_words, attesting_start, requested_image};
-ghost use Rattle.key_isolation.specs.Example.{attestation_start, last_value, until_key_read, whole_call};
+ghost use Rattle.device_trace.specs.{Blank.blank, Start.without_key, Text.play_text, Trace.{released_words, trace}, Example.{counting_words, upwards}};
+ghost use Rattle.key_isolation.specs.{AttestedPlay.{attested_text, attested_words, attesting_start, requested_image}, Example.{attestation_start, last_value, until_key_read, whole_call}};
 
 /// A call reads the second word of the key, which the trace has and the blanked trace has not.
 pub fn blank_hides_key_word()

@@ -1,14 +1,9 @@
 ghost use Rattle.std.specs.Prelude.{◌≡◌, ◌++◌, Bool, List};
-ghost use Rattle.bus_signals.specs.SeenRecord.{SeenHistory};
-ghost use Rattle.device_trace.specs.Blank.{blank};
-ghost use Rattle.device_trace.specs.Start.{Start, with_key};
-ghost use Rattle.device_trace.specs.Trace.{open_trace, released_words, trace};
-ghost use Rattle.key_isolation.specs.Agreement.{ReleaseAlike, SameButKey};
-ghost use Rattle.key_isolation.specs.Keyless.{LooksAlike, LooksKeyless, keyless};
-ghost use Rattle.bus_signals.specs.Address.{Contents, Bytes};
+ghost use Rattle.bus_signals.specs.{SeenRecord.SeenHistory, Address.{Contents, Bytes}};
+ghost use Rattle.device_trace.specs.{Blank.blank, Start.{Start, with_key}, Trace.{open_trace, released_words, trace}, Play.Play};
+ghost use Rattle.key_isolation.specs.{Agreement.{ReleaseAlike, SameButKey}, Keyless.{LooksAlike, LooksKeyless, keyless}};
 ghost use Rattle.word_arith.specs.Word16.{Word16};
 ghost use Rattle.part_definitions.specs.Hmac.{Digest};
-ghost use Rattle.device_trace.specs.Play.{Play};
 
 /// For every second flag, digest, key, image and play: the trace, with what stands in the key and
 /// in the exclusive stack blanked, is the trace without a key in which the calls release these

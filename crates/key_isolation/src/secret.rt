@@ -1,10 +1,6 @@
 ghost use Rattle.std.specs.Prelude.{◌≡◌, ℕ, List, Option, IfSome, IsTrue, IsFalse};
-ghost use Rattle.bus_signals.specs.declared.access.Access.{Access};
-ghost use Rattle.bus_signals.specs.declared.bus_record.BusRecord.{BusRecord};
-ghost use Rattle.bus_signals.specs.declared.kind.Kind.{Kind};
-ghost use Rattle.bus_signals.specs.declared.rule.Rule.{Rule};
-ghost use Rattle.device_trace.specs.Blank.{blank_record, is_secret};
-ghost use Rattle.device_trace.specs.Logs.{released_words_after};
+ghost use Rattle.bus_signals.specs.{declared.{access.Access.Access, bus_record.BusRecord.BusRecord, kind.Kind.Kind, rule.Rule.Rule}};
+ghost use Rattle.device_trace.specs.{Blank.{blank_record, is_secret}, Logs.released_words_after};
 ghost use Rattle.key_isolation.specs.Openness.{IsOpen, releases_word};
 ghost use Rattle.part_definitions.specs.Memory.{is_image_place};
 

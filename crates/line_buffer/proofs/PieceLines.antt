@@ -9,8 +9,7 @@ use Rattle.std.proofs.lemmas.Str.Ascii.{IsAscii-nil, IsAscii-cons}
 use Rattle.named_value.specs.PlainWord.{IsPlainWord}
 use Rattle.printed_lines.specs.Line.{flag_digit, byte_digits, word_digits, with_pieces, line_of}
 use Rattle.text_scan.specs.Word.{words_of}
-use Rattle.text_scan.proofs.FirstLine.{lines-line}
-use Rattle.text_scan.proofs.PlainWords.{ArePlain, words_of-join, printed-join, printed_bounds, printed-ascii, plain-encoded, one_byte, two_bytes}
+use Rattle.text_scan.proofs.{FirstLine.lines-line, PlainWords.{ArePlain, words_of-join, printed-join, printed_bounds, printed-ascii, plain-encoded, one_byte, two_bytes}}
 use Rattle.line_buffer.specs.LineLaw.{ArePieces, room, IsReadByWords, HasRoom}
 
 -- pieces one after the other, and behind a text

@@ -3,39 +3,12 @@
 use Rattle.std.proofs.Common.{◌≡◌, ℕ, suc, ◌+◌, ◌<◌, ◌≤◌, true, false, List, [], ◌∷◌, ◌++◌, drop, Option, Some, None, length, refl, ap, sym, ◌∙◌, arith, subst}
 use Rattle.std.specs.Prelude.{if◌then◌else◌}
 use Rattle.std.proofs.lemmas.List.{length_push}
-use Rattle.bus_signals.specs.declared.access.Access.{Access}
-use Rattle.bus_signals.specs.declared.bounds.Bounds.{Bounds}
-use Rattle.bus_signals.specs.declared.bus_record.BusRecord.{BusRecord}
-use Rattle.bus_signals.specs.declared.event.Event.{Event}
-use Rattle.bus_signals.specs.declared.kind.Kind.{Kind}
-use Rattle.bus_signals.specs.declared.kind.Kind.TheVariants.{Rom}
-use Rattle.bus_signals.specs.declared.rule.Rule.{Rule}
-use Rattle.part_definitions.specs.Attestation.{CallItem, ReturnRead, bounds_read, call_item, is_return, item_access, word_passed}
-use Rattle.part_definitions.specs.CpuRegister.{sp_of}
-use Rattle.part_definitions.specs.Memory.{MemoryWrite, byte_at, is_flag_word, with_access}
-use Rattle.part_definitions.specs.Request.{ATTESTS}
-use Rattle.device_trace.specs.Play.{Play}
-use Rattle.device_trace.specs.Logs.{Logs, flags_of, released_words_after, with_events, with_released_word}
-use Rattle.device_trace.specs.Progress.{call_access}
-use Rattle.device_trace.specs.Signals.{value_read}
-use Rattle.device_trace.specs.Start.{Start}
-use Rattle.device_trace.specs.Step.{next_record}
-use Rattle.device_trace.specs.Trace.{byte_after, logs_after, trace}
-use Rattle.mac_coverage.specs.AttestedBytes.{AttestedBytes, without_flag_words}
-use Rattle.mac_coverage.specs.Call.{begins_call, last_call, mac_written}
-use Rattle.mac_coverage.specs.Coverage.{attested_after, call_length, kept_after}
+use Rattle.bus_signals.specs.{declared.{access.Access.Access, bounds.Bounds.Bounds, bus_record.BusRecord.BusRecord, event.Event.Event, kind.Kind.{Kind, TheVariants.Rom}, rule.Rule.Rule}}
+use Rattle.part_definitions.specs.{Attestation.{CallItem, ReturnRead, bounds_read, call_item, is_return, item_access, word_passed}, CpuRegister.sp_of, Memory.{MemoryWrite, byte_at, is_flag_word, with_access}, Request.ATTESTS}
+use Rattle.device_trace.specs.{Play.Play, Logs.{Logs, flags_of, released_words_after, with_events, with_released_word}, Progress.call_access, Signals.value_read, Start.Start, Step.next_record, Trace.{byte_after, logs_after, trace}}
+use Rattle.mac_coverage.specs.{AttestedBytes.{AttestedBytes, without_flag_words}, Call.{begins_call, last_call, mac_written}, Coverage.{attested_after, call_length, kept_after}}
 use Rattle.trace_facts.proofs.ItemNumbers.{IsItemAt, item_after-at}
-use Rattle.mac_coverage.proofs.AttestedIs.{attested_bytes_in-is}
-use Rattle.mac_coverage.proofs.CallItems.{goes_on-attests, is_last, not_last}
-use Rattle.mac_coverage.proofs.Device.{Device, start_of, start_of-bytes}
-use Rattle.mac_coverage.proofs.ExecKept.{IsRomStep}
-use Rattle.mac_coverage.proofs.KeptStored.{kept-alike, kept-early, kept-late}
-use Rattle.mac_coverage.proofs.MacStored.{MacStands, mac-alike}
-use Rattle.mac_coverage.proofs.MemoryBytes.{byte_after-byte}
-use Rattle.mac_coverage.proofs.Passes.{Passes, item-passes, kept_at, mac_count, words_written}
-use Rattle.mac_coverage.proofs.WordPlan.{ArePlanned, IsAttested, IsCounter, Plan, call_item-planned, first_mac_words, planned-more, planned_counter, planned_decision, planned_item, planned_region, planned_tag}
-use Rattle.mac_coverage.proofs.Steps.{IsCallStep, bytes-after}
-use Rattle.mac_coverage.proofs.Words.{AreBytes}
+use Rattle.mac_coverage.proofs.{AttestedIs.attested_bytes_in-is, CallItems.{goes_on-attests, is_last, not_last}, Device.{Device, start_of, start_of-bytes}, ExecKept.IsRomStep, KeptStored.{kept-alike, kept-early, kept-late}, MacStored.{MacStands, mac-alike}, MemoryBytes.byte_after-byte, Passes.{Passes, item-passes, kept_at, mac_count, words_written}, WordPlan.{ArePlanned, IsAttested, IsCounter, Plan, call_item-planned, first_mac_words, planned-more, planned_counter, planned_decision, planned_item, planned_region, planned_tag}, Steps.{IsCallStep, bytes-after}, Words.AreBytes}
 
 -- the logs after the events of a step, its record, and the records of its call before it
 abbrev pub log_at : Device → Play → List Event → Logs

@@ -4,25 +4,11 @@ use Rattle.std.specs.Prelude.{◌==◌, ◌&&◌, is_none, is_some, nat_lt, if�
 use Rattle.std.proofs.lemmas.Bool.{cases_lt, cond-false, cond-true, eq-eqb, eqb-true, le-ltb, lt-ltb}
 use Rattle.std.proofs.lemmas.List.{take-append-drop}
 use Rattle.std.proofs.lemmas.List.FromFn.{take-map-range_with_len}
-use Rattle.bus_signals.specs.declared.bus_record.BusRecord.{BusRecord}
-use Rattle.bus_signals.specs.declared.event.Event.{Event}
-use Rattle.bus_signals.specs.declared.rule.Rule.{Rule}
-use Rattle.part_definitions.specs.Attestation.{word_of_bytes}
-use Rattle.part_definitions.specs.Request.{ATTESTS}
-use Rattle.device_trace.specs.Play.{Play}
-use Rattle.device_trace.specs.Logs.{decision_after, call_decision, finishes_call, released_words_after}
-use Rattle.device_trace.specs.Progress.{Progress}
-use Rattle.device_trace.specs.Text.{last_decision}
-use Rattle.device_trace.specs.Trace.{byte_after, trace}
-use Rattle.mac_coverage.specs.AttestedBytes.{call_words}
-use Rattle.mac_coverage.specs.Call.{ends_finished, last_call}
-use Rattle.mac_coverage.specs.Coverage.{MacCoversCall}
-use Rattle.mac_coverage.proofs.Calls.{CallSoFar, before-last, earlier_records, entry_at}
-use Rattle.mac_coverage.proofs.Device.{start_of}
-use Rattle.mac_coverage.proofs.MacStored.{MacStands, mac-is}
-use Rattle.mac_coverage.proofs.Passes.{decision_words, mac_count, words_written}
-use Rattle.mac_coverage.proofs.WordPlan.{Plan, first_mac_words, planned_decision, planned_region, planned_tag}
-use Rattle.mac_coverage.proofs.Words.{are_bytes}
+use Rattle.bus_signals.specs.{declared.{bus_record.BusRecord.BusRecord, event.Event.Event, rule.Rule.Rule}}
+use Rattle.part_definitions.specs.{Attestation.word_of_bytes, Request.ATTESTS}
+use Rattle.device_trace.specs.{Play.Play, Logs.{decision_after, call_decision, finishes_call, released_words_after}, Progress.Progress, Text.last_decision, Trace.{byte_after, trace}}
+use Rattle.mac_coverage.specs.{AttestedBytes.call_words, Call.{ends_finished, last_call}, Coverage.MacCoversCall}
+use Rattle.mac_coverage.proofs.{Calls.{CallSoFar, before-last, earlier_records, entry_at}, Device.start_of, MacStored.{MacStands, mac-is}, Passes.{decision_words, mac_count, words_written}, WordPlan.{Plan, first_mac_words, planned_decision, planned_region, planned_tag}, Words.are_bytes}
 
 -- the words of the MAC that are written, and the others
 few_words : (plan : Plan) (count : ℕ) → count ≤ 16

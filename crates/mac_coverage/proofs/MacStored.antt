@@ -4,9 +4,7 @@ use Rattle.std.specs.Prelude.{◌==◌, slice_index, if◌then◌else◌}
 use Rattle.std.proofs.lemmas.Bool.{cases_eq, cases_lt, cond-true, cond-false, eq-eqb, ne_eqb}
 use Rattle.std.proofs.lemmas.Bool.Decides.{nat_tests}
 use Rattle.word_arith.specs.declared.size.Size.TheVariants.{Word}
-use Rattle.part_definitions.specs.BusAccess.{write_at}
-use Rattle.part_definitions.specs.Attestation.{word_of_bytes}
-use Rattle.part_definitions.specs.Memory.{MemoryWrite, PowerOn, ShownFlags, byte_at, bytes_from, first_byte, is_flag_word, last_written, takes_write, with_access, with_bytes}
+use Rattle.part_definitions.specs.{BusAccess.write_at, Attestation.word_of_bytes, Memory.{MemoryWrite, PowerOn, ShownFlags, byte_at, bytes_from, first_byte, is_flag_word, last_written, takes_write, with_access, with_bytes}}
 use Rattle.mac_coverage.proofs.Words.{AreBytes}
 
 -- the first words of these bytes stand there, so many

@@ -5,27 +5,12 @@ use Rattle.std.proofs.lemmas.Bool.{cases_lt, cond-true, cond-false, le-ltb, lt-l
 use Rattle.std.proofs.lemmas.Bool.Decides.{nat_tests}
 use Rattle.std.proofs.lemmas.List.{append_assoc}
 use Rattle.word_arith.specs.declared.size.Size.TheVariants.{Word}
-use Rattle.bus_signals.specs.declared.access.Access.{Access}
-use Rattle.bus_signals.specs.declared.bounds.Bounds.{Bounds}
-use Rattle.bus_signals.specs.Map.{lies_in, mac_region}
-use Rattle.part_definitions.specs.BusAccess.{read_at, write_at}
-use Rattle.part_definitions.specs.Attestation.{CallItem, KeyRead, MetadataRead, KeptRead, KeptWrite, DecisionWrite, DerivedKeyWrite, RegionRead, InnerDigestWrite, MacWrite, ReturnRead, bounds_read, is_return, item_access, region_place, word_of_bytes, written_word, word_passed}
-use Rattle.part_definitions.specs.Memory.{MemoryWrite, PowerOn, ShownFlags, byte_at, with_access}
-use Rattle.part_definitions.specs.Metadata.{bounds_in, kept_bytes}
-use Rattle.part_definitions.specs.Region.{bounded_bytes}
-use Rattle.device_trace.specs.Logs.{Logs, logged_byte, with_released_word}
-use Rattle.device_trace.specs.Signals.{value_read}
-use Rattle.mac_coverage.specs.AttestedBytes.{AttestedBytes, attested_bytes_in}
-use Rattle.mac_coverage.specs.Coverage.{kept_within}
-use Rattle.mac_coverage.proofs.AttestedIs.{IsWordAt, bounds-attested, rest-word}
-use Rattle.trace_facts.proofs.CallPlaces.{mac_place}
-use Rattle.trace_facts.proofs.ItemNumbers.{IsItemAt}
-use Rattle.trace_facts.proofs.MissedPlace.{MissesPlace}
-use Rattle.mac_coverage.proofs.Device.{start_of, key_word-read, word-read}
-use Rattle.mac_coverage.proofs.KeptStored.{high-put, kept-early, kept-late, kept-missed, low-put, word-misses}
-use Rattle.mac_coverage.proofs.MacStored.{MacStands, mac-more}
-use Rattle.mac_coverage.proofs.WordPlan.{ArePlanned, IsAttested, IsCounter, Plan, attested_bounds, attested_words, bounds_read-planned, counter_word-planned, decision_in-planned, first_mac_words, first_mac_words-more, planned_counter, planned_counter-is, planned_decision, planned_item, planned_region, planned_tag, tag_in-planned}
-use Rattle.mac_coverage.proofs.Words.{AreBytes, word-bytes_from}
+use Rattle.bus_signals.specs.{declared.{access.Access.Access, bounds.Bounds.Bounds}, Map.{lies_in, mac_region}}
+use Rattle.part_definitions.specs.{BusAccess.{read_at, write_at}, Attestation.{CallItem, KeyRead, MetadataRead, KeptRead, KeptWrite, DecisionWrite, DerivedKeyWrite, RegionRead, InnerDigestWrite, MacWrite, ReturnRead, bounds_read, is_return, item_access, region_place, word_of_bytes, written_word, word_passed}, Memory.{MemoryWrite, PowerOn, ShownFlags, byte_at, with_access}, Metadata.{bounds_in, kept_bytes}, Region.bounded_bytes}
+use Rattle.device_trace.specs.{Logs.{Logs, logged_byte, with_released_word}, Signals.value_read}
+use Rattle.mac_coverage.specs.{AttestedBytes.{AttestedBytes, attested_bytes_in}, Coverage.kept_within}
+use Rattle.mac_coverage.proofs.{AttestedIs.{IsWordAt, bounds-attested, rest-word}, Device.{start_of, key_word-read, word-read}, KeptStored.{high-put, kept-early, kept-late, kept-missed, low-put, word-misses}, MacStored.{MacStands, mac-more}, WordPlan.{ArePlanned, IsAttested, IsCounter, Plan, attested_bounds, attested_words, bounds_read-planned, counter_word-planned, decision_in-planned, first_mac_words, first_mac_words-more, planned_counter, planned_counter-is, planned_decision, planned_item, planned_region, planned_tag, tag_in-planned}, Words.{AreBytes, word-bytes_from}}
+use Rattle.trace_facts.proofs.{CallPlaces.mac_place, ItemNumbers.IsItemAt, MissedPlace.MissesPlace}
 
 -- how many words of the MAC are written when so many words passed
 abbrev pub mac_count : Plan → ℕ → ℕ

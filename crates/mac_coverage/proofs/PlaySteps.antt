@@ -2,33 +2,13 @@
 use Rattle.std.proofs.Common.{◌≡◌, ℕ, ◌≤◌, true, false, List, [], ◌∷◌, None, length, refl, ap, sym, ◌∙◌, subst}
 use Rattle.std.specs.Prelude.{◌==◌, Option, Some}
 use Rattle.std.proofs.lemmas.Bool.{cond-false, cond-true}
-use Rattle.bus_signals.specs.declared.access.Access.{Access}
-use Rattle.bus_signals.specs.declared.access.Access.TheVariants.{Fetch, Read, Write}
-use Rattle.bus_signals.specs.Map.{ROM_ENTRY}
-use Rattle.bus_signals.specs.declared.bus_record.BusRecord.{BusRecord}
-use Rattle.bus_signals.specs.declared.event.Event.{Event}
-use Rattle.bus_signals.specs.declared.kind.Kind.TheVariants.{Rom}
+use Rattle.bus_signals.specs.{declared.{access.Access.{Access, TheVariants.{Fetch, Read, Write}}, bus_record.BusRecord.BusRecord, event.Event.Event, kind.Kind.TheVariants.Rom}, Map.ROM_ENTRY, ExecFlag.last_pc}
 use Rattle.part_definitions.specs.Attestation.{call_item, item_pc}
-use Rattle.bus_signals.specs.ExecFlag.{last_pc}
-use Rattle.device_trace.specs.Play.{Play}
-use Rattle.device_trace.specs.Logs.{step_progress, with_events, with_record}
-use Rattle.device_trace.specs.Progress.{InCall, next_pc_of}
-use Rattle.device_trace.specs.Signals.{step_kind}
-use Rattle.device_trace.specs.Step.{asks_reset, next_record}
-use Rattle.device_trace.specs.Trace.{byte_after, logs_after, trace}
+use Rattle.device_trace.specs.{Play.Play, Logs.{step_progress, with_events, with_record}, Progress.{InCall, next_pc_of}, Signals.step_kind, Step.{asks_reset, next_record}, Trace.{byte_after, logs_after, trace}}
 use Rattle.trace_facts.proofs.ExecFlag.{logs_after-valid}
-use Rattle.mac_coverage.specs.AttestedBytes.{AttestedBytes, without_flag_words}
-use Rattle.mac_coverage.specs.Call.{begins_call, last_call}
-use Rattle.mac_coverage.specs.Coverage.{attested_after, kept_after}
-use Rattle.mac_coverage.proofs.Calls.{CallSoFar, call-begins, earlier_records, entry_at, log_at}
-use Rattle.mac_coverage.proofs.Device.{Device, start_of, start_of-bytes}
-use Rattle.mac_coverage.proofs.ExecKept.{IsRomStep}
-use Rattle.mac_coverage.proofs.MemoryBytes.{byte_after-byte}
-use Rattle.mac_coverage.proofs.MemoryKept.{attested-but_flags, attested-same}
-use Rattle.mac_coverage.proofs.WordPlan.{IsCounter, Plan}
+use Rattle.mac_coverage.specs.{AttestedBytes.{AttestedBytes, without_flag_words}, Call.{begins_call, last_call}, Coverage.{attested_after, kept_after}}
+use Rattle.mac_coverage.proofs.{Calls.{CallSoFar, call-begins, earlier_records, entry_at, log_at}, Device.{Device, start_of, start_of-bytes}, ExecKept.IsRomStep, MemoryBytes.byte_after-byte, MemoryKept.{attested-but_flags, attested-same}, WordPlan.{IsCounter, Plan}, Words.bytes_from-are, Steps.{IsCallStep, IsInRom, OnCall, bytes-alike, bytes-same, record_of-call, record_of-kind, record_of-pc}}
 use Rattle.part_definitions.proofs.BytesFrom.{length-bytes_from}
-use Rattle.mac_coverage.proofs.Words.{bytes_from-are}
-use Rattle.mac_coverage.proofs.Steps.{IsCallStep, IsInRom, OnCall, bytes-alike, bytes-same, record_of-call, record_of-kind, record_of-pc}
 
 -- the last record wrote the high word of the kept counter
 abbrev pub WritesHighWord : Option Access → Type 0

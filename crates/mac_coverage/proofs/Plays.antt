@@ -2,39 +2,12 @@
 use Rattle.std.proofs.Common.{◌≡◌, ℕ, ◌<◌, Bool, true, false, List, [], ◌∷◌, inl, inr, Option, Some, None, length, refl, ap, sym, ◌∙◌, arith}
 use Rattle.std.specs.Prelude.{◌==◌, ◌&&◌, is_none, is_some, IsTrue}
 use Rattle.std.proofs.lemmas.Bool.{and_parts, cases_Bool}
-use Rattle.bus_signals.specs.declared.bus_record.BusRecord.{BusRecord}
-use Rattle.bus_signals.specs.declared.kind.Kind.{Kind}
-use Rattle.bus_signals.specs.declared.kind.Kind.TheVariants.{Boot, Cpu, Idle, Irq, Rom}
-use Rattle.bus_signals.specs.declared.rule.Rule.{Rule}
-use Rattle.bus_signals.specs.Kind.{is_rom}
-use Rattle.bus_signals.specs.Map.{ROM_EXIT}
-use Rattle.bus_signals.specs.Report.{ReportFields}
-use Rattle.part_definitions.specs.Metadata.{counter_bytes, little_endian}
-use Rattle.part_definitions.specs.Region.{mac_bytes}
-use Rattle.part_definitions.specs.Request.{ATTESTS}
-use Rattle.bus_signals.specs.SeenRecord.{SeenHistory}
-use Rattle.bus_signals.specs.Address.{Bytes, Contents}
-use Rattle.part_definitions.specs.Hmac.{Digest}
-use Rattle.device_trace.specs.Play.{Play}
-use Rattle.device_trace.specs.Logs.{Logs, progress_after, step_progress, vector_of, with_events, with_record}
-use Rattle.device_trace.specs.Signals.{step_kind, signals_at}
-use Rattle.device_trace.specs.Start.{Start, with_key}
-use Rattle.device_trace.specs.Step.{next_record, record_of, asks_reset}
-use Rattle.device_trace.specs.Text.{last_decision, last_report}
-use Rattle.device_trace.specs.Trace.{byte_after, logs_after, trace}
-use Rattle.mac_coverage.specs.AttestedBytes.{tag_of}
-use Rattle.mac_coverage.specs.Call.{ends_finished, ends_in_call, ends_refused, last_call}
-use Rattle.mac_coverage.specs.Coverage.{Gives32Bytes, IsDeviceKey, IsOfBytes, MacCoversCall, MacCoversReport, attested_after}
-use Rattle.mac_coverage.proofs.Covers.{decision_after-finishes}
-use Rattle.mac_coverage.proofs.Device.{Device, start_of}
-use Rattle.mac_coverage.proofs.Outcomes.{Outcome, rom_outcome}
-use Rattle.mac_coverage.proofs.Calls.{entry_at, log_at}
-use Rattle.mac_coverage.proofs.PlaySteps.{CallGoesOn, PlayStands, entry-kind}
-use Rattle.mac_coverage.proofs.Steps.{OnCall, other_step-no_call}
-use Rattle.mac_coverage.proofs.Words.{are_bytes}
+use Rattle.bus_signals.specs.{declared.{bus_record.BusRecord.BusRecord, kind.Kind.{Kind, TheVariants.{Boot, Cpu, Idle, Irq, Rom}}, rule.Rule.Rule, access.Access.Access}, Kind.is_rom, Map.ROM_EXIT, Report.ReportFields, SeenRecord.SeenHistory, Address.{Bytes, Contents}}
+use Rattle.part_definitions.specs.{Metadata.{counter_bytes, little_endian}, Region.mac_bytes, Request.ATTESTS, Hmac.Digest}
+use Rattle.device_trace.specs.{Play.Play, Logs.{Logs, progress_after, step_progress, vector_of, with_events, with_record}, Signals.{step_kind, signals_at}, Start.{Start, with_key}, Step.{next_record, record_of, asks_reset}, Text.{last_decision, last_report}, Trace.{byte_after, logs_after, trace}, Progress.Progress}
+use Rattle.mac_coverage.specs.{AttestedBytes.tag_of, Call.{ends_finished, ends_in_call, ends_refused, last_call}, Coverage.{Gives32Bytes, IsDeviceKey, IsOfBytes, MacCoversCall, MacCoversReport, attested_after}}
+use Rattle.mac_coverage.proofs.{Covers.decision_after-finishes, Device.{Device, start_of}, Outcomes.{Outcome, rom_outcome}, Calls.{entry_at, log_at}, PlaySteps.{CallGoesOn, PlayStands, entry-kind}, Steps.{OnCall, other_step-no_call}, Words.are_bytes}
 use Rattle.trace_facts.proofs.LastReport.{last_report-made}
-use Rattle.bus_signals.specs.declared.access.Access.{Access}
-use Rattle.device_trace.specs.Progress.{Progress}
 
 pub rom_kind : (kind : Kind) → is_rom kind ≡ true → kind ≡ Rom
 rom_kind Rom rom = refl

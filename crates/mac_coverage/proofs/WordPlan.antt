@@ -6,14 +6,10 @@ use Rattle.std.proofs.lemmas.Bool.{cases_lt}
 use Rattle.std.proofs.lemmas.List.{length-drop, length-take-le, get_or-take, get_or-drop, get_or_append_left, get_or_past, get_or_push, length_push}
 use Rattle.std.proofs.lemmas.List.FromFn.{map-range_with_len_more}
 use Rattle.bus_signals.specs.declared.bounds.Bounds.{Bounds}
-use Rattle.part_definitions.specs.Attestation.{CallItem, KeyRead, MetadataRead, KeptRead, KeptWrite, DecisionWrite, DerivedKeyWrite, RegionRead, InnerDigestWrite, MacWrite, ReturnRead, attestation_tag, bounds_read, bytes_of_words, call_item, counter_word, decision_in, decision_read, kept_read, key_read, metadata_read, region_read, region_words, tag_in, word_of_bytes}
-use Rattle.part_definitions.specs.Metadata.{counter_in}
-use Rattle.part_definitions.specs.Request.{ATTESTS, request_decision}
+use Rattle.part_definitions.specs.{Attestation.{CallItem, KeyRead, MetadataRead, KeptRead, KeptWrite, DecisionWrite, DerivedKeyWrite, RegionRead, InnerDigestWrite, MacWrite, ReturnRead, attestation_tag, bounds_read, bytes_of_words, call_item, counter_word, decision_in, decision_read, kept_read, key_read, metadata_read, region_read, region_words, tag_in, word_of_bytes}, Metadata.counter_in, Request.{ATTESTS, request_decision}}
 use Rattle.part_definitions.proofs.CallItems.{item_after}
 use Rattle.mac_coverage.specs.AttestedBytes.{AttestedBytes, counter_left, decision_of, tag_of}
-use Rattle.mac_coverage.proofs.CallItems.{decision_item, item_after-early, kept_item, key_item, metadata_item, region_item}
-use Rattle.mac_coverage.proofs.Device.{Device}
-use Rattle.mac_coverage.proofs.Words.{AreBytes, bytes_of_words-read}
+use Rattle.mac_coverage.proofs.{CallItems.{decision_item, item_after-early, kept_item, key_item, metadata_item, region_item}, Device.Device, Words.{AreBytes, bytes_of_words-read}}
 
 -- the bounds in the metadata, and how many words of the region they name
 abbrev pub attested_bounds : AttestedBytes → Bounds

@@ -3,8 +3,7 @@ use Rattle.std.proofs.Common.{◌≡◌, ℕ, zero, suc, ◌+◌, ◌*◌, ◌/�
 use Rattle.std.specs.Prelude.{All, slice_index}
 use Rattle.std.proofs.lemmas.Bool.{cases_lt}
 use Rattle.std.proofs.lemmas.List.{get_or_past}
-use Rattle.part_definitions.specs.Attestation.{bytes_of_words, word_of_bytes}
-use Rattle.part_definitions.specs.Memory.{bytes_from}
+use Rattle.part_definitions.specs.{Attestation.{bytes_of_words, word_of_bytes}, Memory.bytes_from}
 
 -- every number is a byte
 abbrev pub AreBytes : List ℕ → Type 0

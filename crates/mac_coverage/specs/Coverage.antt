@@ -2,19 +2,10 @@
 -- the token and the counters that stand there.
 use Rattle.std.specs.Prelude.{◌≡◌, ◌<◌, ◌≤◌, ◌+◌, ◌++◌, ℕ, All, List, [], IsTrue, Some, length, take, drop, nat_lt, if◌then◌else◌}
 use Rattle.word_arith.specs.Word16.{Word16}
-use Rattle.bus_signals.specs.Report.{ReportFields}
-use Rattle.bus_signals.specs.Address.{Contents, Bytes, Address}
-use Rattle.part_definitions.specs.Attestation.{REQUEST_WORDS}
-use Rattle.part_definitions.specs.Metadata.{kept_bytes}
-use Rattle.part_definitions.specs.Region.{mac_bytes}
-use Rattle.part_definitions.specs.Request.{ATTESTS}
-use Rattle.part_definitions.specs.Hmac.{Digest}
-use Rattle.device_trace.specs.Start.{Start}
-use Rattle.device_trace.specs.Text.{last_decision}
-use Rattle.device_trace.specs.Trace.{trace, byte_after}
-use Rattle.device_trace.specs.Play.{Play}
-use Rattle.mac_coverage.specs.AttestedBytes.{AttestedBytes, attested_bytes_in, without_flag_words, tag_of, decision_of, call_words, counter_left}
-use Rattle.mac_coverage.specs.Call.{last_call, mac_written, ends_in_call, ends_refused, ends_finished}
+use Rattle.bus_signals.specs.{Report.ReportFields, Address.{Contents, Bytes, Address}}
+use Rattle.part_definitions.specs.{Attestation.REQUEST_WORDS, Metadata.kept_bytes, Region.mac_bytes, Request.ATTESTS, Hmac.Digest}
+use Rattle.device_trace.specs.{Start.Start, Text.last_decision, Trace.{trace, byte_after}, Play.Play}
+use Rattle.mac_coverage.specs.{AttestedBytes.{AttestedBytes, attested_bytes_in, without_flag_words, tag_of, decision_of, call_words, counter_left}, Call.{last_call, mac_written, ends_in_call, ends_refused, ends_finished}}
 
 -- 64 bytes
 pub record IsDeviceKey (key : Bytes) : Type 0 where

@@ -1,14 +1,8 @@
 ghost use Rattle.std.specs.Prelude.{◌≡◌, Bool, Some};
-ghost use Rattle.bus_signals.specs.Report.{ReportFields};
-ghost use Rattle.bus_signals.specs.SeenRecord.{SeenHistory};
-ghost use Rattle.device_trace.specs.Report.{EachReport};
-ghost use Rattle.device_trace.specs.Start.{with_key};
-ghost use Rattle.device_trace.specs.Text.{last_report};
-ghost use Rattle.mac_coverage.specs.AttestedBytes.{tag_of};
-ghost use Rattle.mac_coverage.specs.Coverage.{Gives32Bytes, IsDeviceKey, IsOfBytes, MacCoversLastCall, MacCoversReport, attested_after};
-ghost use Rattle.bus_signals.specs.Address.{Contents, Bytes};
+ghost use Rattle.bus_signals.specs.{Report.ReportFields, SeenRecord.SeenHistory, Address.{Contents, Bytes}};
+ghost use Rattle.device_trace.specs.{Report.EachReport, Start.with_key, Text.last_report, Play.Play};
+ghost use Rattle.mac_coverage.specs.{AttestedBytes.tag_of, Coverage.{Gives32Bytes, IsDeviceKey, IsOfBytes, MacCoversLastCall, MacCoversReport, attested_after}};
 ghost use Rattle.part_definitions.specs.Hmac.{Digest};
-ghost use Rattle.device_trace.specs.Play.{Play};
 
 /// Let the last step of a play be one of a call of the ROM. Metadata and bytes of ER and OR stand
 /// in memory unchanged at each moment from the end of the call's first step to the end of its last,

@@ -8,8 +8,7 @@ use Rattle.std.proofs.lemmas.Bool.{cases_Bool}
 use Rattle.std.proofs.lemmas.List.Elements.{All-tail}
 use Rattle.std.proofs.lemmas.Slice.Eq.{bytes_eq-Decides}
 use Rattle.text_scan.specs.declared.fault_kind.FaultKind.TheVariants.{Order, Place, Twice}
-use Rattle.desk_memory.specs.Entry.{Entry, Home, home_of, last_in, owner_in, with_entries, with_entry}
-use Rattle.desk_memory.specs.Moving.{with_arrivals, adoption_fault, entry_on_arrival, entries_on_arrival, at_home, entries_of, has_not_come, is_behind, is_gone_to, is_here, is_needed, is_new_in, is_of_other, moved_lines}
+use Rattle.desk_memory.specs.{Entry.{Entry, Home, home_of, last_in, owner_in, with_entries, with_entry}, Moving.{with_arrivals, adoption_fault, entry_on_arrival, entries_on_arrival, at_home, entries_of, has_not_come, is_behind, is_gone_to, is_here, is_needed, is_new_in, is_of_other, moved_lines}}
 use Rattle.desk_memory.proofs.Noted.{entry_is_last, last_of_more}
 use Rattle.report_text.proofs.ReportWords.{other_bytes}
 use Rattle.many_desks.proofs.Worlds.{same_bytes}

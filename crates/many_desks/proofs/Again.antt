@@ -7,15 +7,10 @@ use Rattle.std.proofs.lemmas.Bool.{cases_Bool}
 use Rattle.std.proofs.lemmas.Bool.Decides.{nat_tests}
 use Rattle.std.proofs.lemmas.List.Elements.{All-from_recursion, recursion_from_All}
 use Rattle.std.proofs.lemmas.Slice.Eq.{bytes_eq-Decides}
-use Rattle.desk_memory.specs.Entry.{Entry, home_of, last_in, with_entries}
-use Rattle.desk_memory.specs.Moving.{with_arrivals, adoption_fault, entry_on_arrival, entries_on_arrival, came_by, entries_of, has_not_come, is_behind, is_new_in}
-use Rattle.many_desks.specs.Act.{world_after}
-use Rattle.many_desks.specs.Law.{entry_of_one}
-use Rattle.many_desks.specs.Moves.{AreAdoptedOnce, AreAlike, IsAdoptedAgain}
+use Rattle.desk_memory.specs.{Entry.{Entry, home_of, last_in, with_entries}, Moving.{with_arrivals, adoption_fault, entry_on_arrival, entries_on_arrival, came_by, entries_of, has_not_come, is_behind, is_new_in}}
+use Rattle.many_desks.specs.{Act.world_after, Law.entry_of_one, Moves.{AreAdoptedOnce, AreAlike, IsAdoptedAgain}}
 use Rattle.desk_memory.proofs.Noted.{last_named}
-use Rattle.many_desks.proofs.Adopted.{AreAt, adopted_last, new_alike, not_behind, says_of_none}
-use Rattle.many_desks.proofs.Placed.{MovedTo, placed, view_of}
-use Rattle.many_desks.proofs.Token.{settles}
+use Rattle.many_desks.proofs.{Adopted.{AreAt, adopted_last, new_alike, not_behind, says_of_none}, Placed.{MovedTo, placed, view_of}, Token.settles}
 
 refused : (desk : List ℕ) (entries : List Entry) (name : List ℕ) (line : Entry)
     → line.name ≡ name → is_behind line (last_in entries name) ≡ true

@@ -1,26 +1,11 @@
 -- What follows of where devices are.
 use Rattle.std.proofs.Common.{◌≡◌, ◌∙◌, ◌⊎◌, ℕ, List, [], ◌∷◌, ◌++◌, Option, Some, None, refl, sym, ap, subst, inl, inr}
 use Rattle.std.proofs.lemmas.List.{map-append}
-use Rattle.desk_memory.specs.Entry.{Entry, last_in}
-use Rattle.desk_memory.specs.declared.device_state.DeviceState.{DeviceState}
-use Rattle.verifier_desk.specs.DeskLine.{DeskLine, Own, desk_line_of}
-use Rattle.verifier_desk.specs.DeviceKey.{DeviceKey, key_named}
-use Rattle.verifier_desk.specs.DeviceLine.{DeviceLine}
-use Rattle.verifier_desk.specs.DeviceReply.{answer_after}
-use Rattle.verifier_desk.specs.Replies.{DeskFields, answer_line, judge_at, lines_said, own_answer, own_line, own_lines, reply_to}
-use Rattle.verifier_desk.proofs.GoneOn.{own_lines-append}
-use Rattle.verifier_desk.proofs.Remembered.{IsKnown, line_known, state_known}
-use Rattle.verifier_desk.specs.Judged.{JudgedLine, answer_to, entry_through, mark_of}
-use Rattle.verifier_desk.specs.Law.{judged_at, judged_lines}
-use Rattle.verifier_desk.specs.Run.{Run}
-use Rattle.verifier_desk.proofs.AllRuns.{entry_through-append}
-use Rattle.verifier_desk.proofs.Repeated.{answer_is_repeated as of_one_device}
-use Rattle.many_desks.specs.Act.{Act, AreAllowed, Serves, World, world_after}
-use Rattle.many_desks.specs.Law.{AreAsOne, HasOneHome, IsAnsweredAsOne, IsAnsweredAlike, SayAlike, Serving, StartsAt, answer_of_one, entry_of_one, lines_before, lines_in, now_in}
-use Rattle.many_desks.proofs.Placed.{MovedTo, begun_here, placed, run_serves, view_of}
-use Rattle.many_desks.proofs.Through.{alike_state, alike_through}
-use Rattle.many_desks.proofs.Token.{here_says, one_home, says_as_one}
-use Rattle.many_desks.proofs.Worlds.{same_bytes}
+use Rattle.desk_memory.specs.{Entry.{Entry, last_in}, declared.device_state.DeviceState.DeviceState}
+use Rattle.verifier_desk.specs.{DeskLine.{DeskLine, Own, desk_line_of}, DeviceKey.{DeviceKey, key_named}, DeviceLine.DeviceLine, DeviceReply.answer_after, Replies.{DeskFields, answer_line, judge_at, lines_said, own_answer, own_line, own_lines, reply_to}, Judged.{JudgedLine, answer_to, entry_through, mark_of}, Law.{judged_at, judged_lines}, Run.Run}
+use Rattle.verifier_desk.proofs.{GoneOn.own_lines-append, Remembered.{IsKnown, line_known, state_known}, AllRuns.entry_through-append, Repeated.answer_is_repeated as of_one_device}
+use Rattle.many_desks.specs.{Act.{Act, AreAllowed, Serves, World, world_after}, Law.{AreAsOne, HasOneHome, IsAnsweredAsOne, IsAnsweredAlike, SayAlike, Serving, StartsAt, answer_of_one, entry_of_one, lines_before, lines_in, now_in}}
+use Rattle.many_desks.proofs.{Placed.{MovedTo, begun_here, placed, run_serves, view_of}, Through.{alike_state, alike_through}, Token.{here_says, one_home, says_as_one}, Worlds.same_bytes}
 
 pub device_has_one_home : HasOneHome
 device_has_one_home start acts home name one other so allowed here too =

@@ -2,14 +2,10 @@
 use Rattle.std.proofs.Common.{◌≡◌, ◌∙◌, ◌⊎◌, ◌<◌, ℕ, List, [], ◌∷◌, ◌++◌, Option, refl, sym, subst, subst₂, inl, inr}
 use Rattle.std.specs.List.{All, Contains}
 use Rattle.desk_memory.specs.Entry.{Entry, last_in}
-use Rattle.verifier_desk.specs.Judged.{JudgedLine}
-use Rattle.verifier_desk.specs.Law.{Descends, KeyCounter, accepted_counters, count_in, counters_in, judged_lines, outstanding_in, requested_counters}
+use Rattle.verifier_desk.specs.{Judged.JudgedLine, Law.{Descends, KeyCounter, accepted_counters, count_in, counters_in, judged_lines, outstanding_in, requested_counters}}
 use Rattle.verifier_desk.proofs.AcceptedOnce.{report_is_accepted_once as of_one_desk}
-use Rattle.many_desks.specs.Act.{Act, Adopts, AreAllowed, Sends, Serves, World}
-use Rattle.many_desks.specs.Counters.{NoneIsAcceptedTwice, accepted_in, requested_in}
-use Rattle.many_desks.specs.Law.{SayAlike, StartsAt, entry_of_one, lines_in}
-use Rattle.many_desks.proofs.AsOne.{run_begins}
-use Rattle.many_desks.proofs.Through.{accepted-append, accepted_alike, requested-append, requested_alike}
+use Rattle.many_desks.specs.{Act.{Act, Adopts, AreAllowed, Sends, Serves, World}, Counters.{NoneIsAcceptedTwice, accepted_in, requested_in}, Law.{SayAlike, StartsAt, entry_of_one, lines_in}}
+use Rattle.many_desks.proofs.{AsOne.run_begins, Through.{accepted-append, accepted_alike, requested-append, requested_alike}}
 
 -- of a run that has a line of a device, or has none
 requested_as_one : (name : List ℕ) (one other : Option Entry) (lines : List JudgedLine)

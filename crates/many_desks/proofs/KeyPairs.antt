@@ -7,8 +7,7 @@ use Rattle.std.specs.Option.{is_some}
 use Rattle.std.specs.Str.{bytes_eq}
 use Rattle.std.proofs.lemmas.Bool.{cases_Bool}
 use Rattle.std.proofs.lemmas.Slice.Eq.{bytes_eq-Decides}
-use Rattle.desk_memory.specs.Entry.{Entry, Home, home_of, is_replaced, last_in, owner_in, with_entries, with_entry}
-use Rattle.desk_memory.specs.Moving.{with_arrivals, entries_on_arrival, at_home, with_departure, entries_of, gone_to, is_needed, moved_lines, with_gone}
+use Rattle.desk_memory.specs.{Entry.{Entry, Home, home_of, is_replaced, last_in, owner_in, with_entries, with_entry}, Moving.{with_arrivals, entries_on_arrival, at_home, with_departure, entries_of, gone_to, is_needed, moved_lines, with_gone}}
 use Rattle.many_desks.specs.Keys.{StandsUnder}
 use Rattle.many_desks.proofs.Worlds.{same_bytes}
 

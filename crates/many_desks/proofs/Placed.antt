@@ -5,23 +5,13 @@ use Rattle.std.specs.Option.{is_none, is_some}
 use Rattle.std.specs.Str.{bytes_eq}
 use Rattle.std.proofs.lemmas.Bool.{cases_Bool}
 use Rattle.std.proofs.lemmas.Slice.Eq.{bytes_eq-Decides}
-use Rattle.desk_memory.specs.Entry.{Entry, Home, home_of, last_in}
-use Rattle.desk_memory.specs.Moving.{adoption_fault, with_departure, entries_of, gone_to, has_here, is_behind, is_here, moved_lines, with_gone}
+use Rattle.desk_memory.specs.{Entry.{Entry, Home, home_of, last_in}, Moving.{adoption_fault, with_departure, entries_of, gone_to, has_here, is_behind, is_here, moved_lines, with_gone}}
 use Rattle.desk_memory.proofs.Noted.{entry_is_last, last_named}
-use Rattle.verifier_desk.specs.DeviceKey.{DeviceKey, key_named}
-use Rattle.verifier_desk.specs.Gone.{first_gone}
-use Rattle.verifier_desk.specs.Judged.{JudgedLine, entry_through}
-use Rattle.verifier_desk.specs.Law.{judged_at, judged_lines}
-use Rattle.verifier_desk.specs.Replies.{own_lines}
-use Rattle.verifier_desk.specs.Run.{Run}
-use Rattle.verifier_desk.proofs.AllRuns.{entry_through-append}
-use Rattle.verifier_desk.proofs.Remembered.{memory_has_states}
-use Rattle.many_desks.specs.Act.{Act, Adopts, AreAllowed, IsMove, MayAdopt, MayServe, Sends, Serves, WasMoved, World, desk_of, entries_by, world_after}
-use Rattle.many_desks.specs.Law.{IsLeft, StartsAt, entry_of_one, lines_in, note_of}
-use Rattle.many_desks.proofs.Adopted.{AreAt, adopted_elsewhere, adopted_last, last_has, last_of_own, moved_are_alike, moved_last, not_behind}
-use Rattle.many_desks.proofs.Token.{IsBehind, IsPlaced, SpeaksRightly, View, comes, goes, serves, speaks_rightly, stays}
+use Rattle.verifier_desk.specs.{DeviceKey.{DeviceKey, key_named}, Gone.first_gone, Judged.{JudgedLine, entry_through}, Law.{judged_at, judged_lines}, Replies.own_lines, Run.Run}
+use Rattle.verifier_desk.proofs.{AllRuns.entry_through-append, Remembered.memory_has_states}
+use Rattle.many_desks.specs.{Act.{Act, Adopts, AreAllowed, IsMove, MayAdopt, MayServe, Sends, Serves, WasMoved, World, desk_of, entries_by, world_after}, Law.{IsLeft, StartsAt, entry_of_one, lines_in, note_of}}
+use Rattle.many_desks.proofs.{Adopted.{AreAt, adopted_elsewhere, adopted_last, last_has, last_of_own, moved_are_alike, moved_last, not_behind}, Token.{IsBehind, IsPlaced, SpeaksRightly, View, comes, goes, serves, speaks_rightly, stays}, Worlds.{changed_memory, other_memory, same_bytes, same_or_other}}
 use Rattle.report_text.proofs.ReportWords.{other_bytes}
-use Rattle.many_desks.proofs.Worlds.{changed_memory, other_memory, same_bytes, same_or_other}
 
 abbrev pub view_of : World → List ℕ → View
 view_of world name desk = last_in (world desk) name

@@ -8,26 +8,13 @@ use Rattle.std.specs.Str.{bytes_eq}
 use Rattle.std.proofs.lemmas.Bool.{cases_Bool}
 use Rattle.std.proofs.lemmas.List.Elements.{All-from_recursion}
 use Rattle.std.proofs.lemmas.Slice.Eq.{bytes_eq-Decides}
-use Rattle.desk_memory.specs.DeviceState.{is_new}
-use Rattle.desk_memory.specs.Entry.{Entry, Home, Note, entry_at, home_of, is_replaced, last_in, with_entries, with_entry}
-use Rattle.desk_memory.specs.Moving.{with_arrivals, entries_on_arrival, at_home, with_departure, entries_of, gone_to, is_here, is_needed, moved_lines, with_gone}
-use Rattle.verifier_desk.specs.DeskLine.{DeskLine, TooLong, Silent, Foreign, Own, desk_line_of}
-use Rattle.verifier_desk.specs.DeviceKey.{key_named}
-use Rattle.verifier_desk.specs.DeviceLine.{DeviceLine}
-use Rattle.verifier_desk.specs.Law.{judged_lines}
-use Rattle.verifier_desk.specs.Noted.{entries_after, note_at, noted_of, with_noted}
-use Rattle.verifier_desk.specs.Replies.{DeskFields, lines_said, state_at}
-use Rattle.verifier_desk.specs.Run.{Run}
+use Rattle.desk_memory.specs.{DeviceState.is_new, Entry.{Entry, Home, Note, entry_at, home_of, is_replaced, last_in, with_entries, with_entry}, Moving.{with_arrivals, entries_on_arrival, at_home, with_departure, entries_of, gone_to, is_here, is_needed, moved_lines, with_gone}}
+use Rattle.verifier_desk.specs.{DeskLine.{DeskLine, TooLong, Silent, Foreign, Own, desk_line_of}, DeviceKey.key_named, DeviceLine.DeviceLine, Law.judged_lines, Noted.{entries_after, note_at, noted_of, with_noted}, Replies.{DeskFields, lines_said, state_at}, Run.Run}
 use Rattle.verifier_desk.proofs.Remembered.{IsKnown, line_known, memory_has_states}
-use Rattle.many_desks.specs.Act.{Act, Adopts, IsAllowed, IsMove, MayServe, Sends, Serves, WasMoved, World, desk_of, entries_by, world_after}
-use Rattle.many_desks.specs.Possible.{IsPrintedAgain}
+use Rattle.many_desks.specs.{Act.{Act, Adopts, IsAllowed, IsMove, MayServe, Sends, Serves, WasMoved, World, desk_of, entries_by, world_after}, Possible.IsPrintedAgain}
 use Rattle.desk_memory.proofs.Noted.{last_named}
-use Rattle.many_desks.proofs.Adopted.{last_has, last_of_own, more_last, or_else, says_of_none}
-use Rattle.many_desks.proofs.KeyPairs.{both}
-use Rattle.many_desks.proofs.Placed.{departed_last, none_gone}
-use Rattle.many_desks.proofs.Through.{home_through}
+use Rattle.many_desks.proofs.{Adopted.{last_has, last_of_own, more_last, or_else, says_of_none}, KeyPairs.both, Placed.{departed_last, none_gone}, Through.home_through, Worlds.{changed_memory, other_memory, same_or_other}}
 use Rattle.report_text.proofs.ReportWords.{other_bytes}
-use Rattle.many_desks.proofs.Worlds.{changed_memory, other_memory, same_or_other}
 
 -- the lines go by the device's own entries
 own_lines_same : (name : List ℕ) (entries other : List Entry)

@@ -4,12 +4,8 @@ use Rattle.std.specs.Prelude.{if◌then◌else◌, option_map}
 use Rattle.std.specs.Str.{bytes_eq}
 use Rattle.std.proofs.lemmas.Bool.{cases_Bool}
 use Rattle.report_text.specs.ReportFile.{report2_of}
-use Rattle.desk_memory.specs.declared.device_state.DeviceState.{DeviceState}
-use Rattle.desk_memory.specs.DeviceState.{is_new, new_device, under_new_key}
-use Rattle.desk_memory.specs.Entry.{Entry, Note, home_of, state_under}
-use Rattle.verifier_desk.specs.DeviceReply.{answer_after, state_after}
-use Rattle.verifier_desk.specs.Judged.{JudgedLine, entry_after, entry_through, is_new_to, mark_of, state_before}
-use Rattle.verifier_desk.specs.Law.{KeyCounter, accepted_counters, accepted_counter, counter_of, requested_counters, under_mark}
+use Rattle.desk_memory.specs.{declared.device_state.DeviceState.DeviceState, DeviceState.{is_new, new_device, under_new_key}, Entry.{Entry, Note, home_of, state_under}}
+use Rattle.verifier_desk.specs.{DeviceReply.{answer_after, state_after}, Judged.{JudgedLine, entry_after, entry_through, is_new_to, mark_of, state_before}, Law.{KeyCounter, accepted_counters, accepted_counter, counter_of, requested_counters, under_mark}}
 use Rattle.verifier_desk.proofs.AllRuns.{entry_through-append}
 use Rattle.many_desks.specs.Law.{SayAlike, note_of}
 

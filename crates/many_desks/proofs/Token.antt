@@ -6,13 +6,10 @@ use Rattle.std.specs.Option.{is_none}
 use Rattle.std.specs.Prelude.{if◌then◌else◌, nat_lt, IfSome, option_map}
 use Rattle.std.proofs.lemmas.Bool.{cases_Bool}
 use Rattle.std.proofs.lemmas.Bool.Decides.{nat_tests}
-use Rattle.desk_memory.specs.Entry.{Entry, Home, home_of}
-use Rattle.desk_memory.specs.Moving.{entry_on_arrival, came_by, gone_to, has_here, has_not_come, is_behind, is_here}
+use Rattle.desk_memory.specs.{Entry.{Entry, Home, home_of}, Moving.{entry_on_arrival, came_by, gone_to, has_here, has_not_come, is_behind, is_here}}
 use Rattle.verifier_desk.specs.Judged.{JudgedLine, entry_through}
-use Rattle.many_desks.specs.Act.{IsLearned}
-use Rattle.many_desks.specs.Law.{SayAlike, note_of}
-use Rattle.many_desks.proofs.Worlds.{same_or_other}
-use Rattle.many_desks.proofs.Through.{home_through, never_none, some_through, alike_through}
+use Rattle.many_desks.specs.{Act.IsLearned, Law.{SayAlike, note_of}}
+use Rattle.many_desks.proofs.{Worlds.same_or_other, Through.{home_through, never_none, some_through, alike_through}}
 
 -- the last entry of the device at each desk
 abbrev pub View : Type 0

@@ -2,12 +2,8 @@
 -- desk is told by its name.
 use Rattle.std.specs.Prelude.{◌≡◌, ◌⊎◌, ℕ, true, List, [], ◌∷◌, if◌then◌else◌, All, Option, None}
 use Rattle.std.specs.Str.{bytes_eq}
-use Rattle.desk_memory.specs.Entry.{Entry, last_in, owner_in}
-use Rattle.desk_memory.specs.Moving.{with_arrivals, adoption_fault, with_departure, entries_of, has_here, moved_lines}
-use Rattle.verifier_desk.specs.Gone.{first_gone}
-use Rattle.verifier_desk.specs.KeyOwner.{KeysStandApart}
-use Rattle.verifier_desk.specs.Noted.{entries_after}
-use Rattle.verifier_desk.specs.Run.{Run}
+use Rattle.desk_memory.specs.{Entry.{Entry, last_in, owner_in}, Moving.{with_arrivals, adoption_fault, with_departure, entries_of, has_here, moved_lines}}
+use Rattle.verifier_desk.specs.{Gone.first_gone, KeyOwner.KeysStandApart, Noted.entries_after, Run.Run}
 
 -- the entries that the memory of each desk has, by the desk's name
 abbrev pub World : Type 0

@@ -2,8 +2,7 @@
 use Rattle.std.specs.Prelude.{◌<◌, ◌++◌, ℕ, List, [], ◌∷◌, All, Contains}
 use Rattle.desk_memory.specs.Entry.{last_in}
 use Rattle.verifier_desk.specs.Law.{Descends, KeyCounter, StartsSound, accepted_counters, count_in, counters_in, judged_lines, outstanding_in, requested_counters}
-use Rattle.many_desks.specs.Act.{Act, AreAllowed, Serves, World}
-use Rattle.many_desks.specs.Law.{StartsAt}
+use Rattle.many_desks.specs.{Act.{Act, AreAllowed, Serves, World}, Law.StartsAt}
 
 -- the counters that all desks requested of the device of a name and accepted from it, each by the
 -- entries that it had

@@ -1,9 +1,7 @@
 -- What becomes of the lines by which devices move: they are adopted once.
 use Rattle.std.specs.Prelude.{◌≡◌, ◌⊎◌, ℕ, false, List, All, Some, None}
-use Rattle.desk_memory.specs.Entry.{Entry, home_of, last_in}
-use Rattle.desk_memory.specs.Moving.{with_arrivals, adoption_fault, has_here, has_not_come}
-use Rattle.many_desks.specs.Act.{Act, AreAllowed, WasMoved, World, world_after}
-use Rattle.many_desks.specs.Law.{SayAlike, StartsAt, entry_of_one}
+use Rattle.desk_memory.specs.{Entry.{Entry, home_of, last_in}, Moving.{with_arrivals, adoption_fault, has_here, has_not_come}}
+use Rattle.many_desks.specs.{Act.{Act, AreAllowed, WasMoved, World, world_after}, Law.{SayAlike, StartsAt, entry_of_one}}
 
 -- no desk has a device here
 abbrev pub IsAway : World → List ℕ → Type 0

@@ -1,15 +1,8 @@
 -- What an operator may do: by this each premise of the laws can be met.
 use Rattle.std.specs.Prelude.{◌≡◌, ◌⊎◌, ℕ, List, ◌∷◌, Some, None}
-use Rattle.desk_memory.specs.Entry.{Entry, last_in, owner_in}
-use Rattle.desk_memory.specs.Moving.{with_departure, moved_lines}
-use Rattle.verifier_desk.specs.DeviceKey.{DeviceKey, key_named}
-use Rattle.verifier_desk.specs.Gone.{first_gone}
-use Rattle.verifier_desk.specs.KeyOwner.{KeysStandApart}
-use Rattle.verifier_desk.specs.Replies.{mark_at}
-use Rattle.verifier_desk.specs.Run.{Run}
-use Rattle.many_desks.specs.Act.{Act, Adopts, AreAllowed, IsAllowed, MayServe, Sends, WasMoved, World, world_after}
-use Rattle.many_desks.specs.Keys.{KeysAreSound}
-use Rattle.many_desks.specs.Law.{StartsAt}
+use Rattle.desk_memory.specs.{Entry.{Entry, last_in, owner_in}, Moving.{with_departure, moved_lines}}
+use Rattle.verifier_desk.specs.{DeviceKey.{DeviceKey, key_named}, Gone.first_gone, KeyOwner.KeysStandApart, Replies.mark_at, Run.Run}
+use Rattle.many_desks.specs.{Act.{Act, Adopts, AreAllowed, IsAllowed, MayServe, Sends, WasMoved, World, world_after}, Keys.KeysAreSound, Law.StartsAt}
 
 -- A device and its key that a memory does not know are known to no other memory.
 pub record IsIntroduced (world : World) (desk name mark : List ℕ) : Type 0 where

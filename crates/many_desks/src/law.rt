@@ -1,8 +1,4 @@
-ghost use Rattle.many_desks.specs.Counters.{NoneIsAcceptedTwice};
-ghost use Rattle.many_desks.specs.Keys.{NoKeyHasTwoNames};
-ghost use Rattle.many_desks.specs.Law.{AreAsOne, HasOneHome, IsAnsweredAsOne, IsAnsweredAlike};
-ghost use Rattle.many_desks.specs.Moves.{AreAdoptedOnce, IsAdoptedAgain};
-ghost use Rattle.many_desks.specs.Possible.{IsPrintedAgain, MayFollow, MayServeAll};
+ghost use Rattle.many_desks.specs.{Counters.NoneIsAcceptedTwice, Keys.NoKeyHasTwoNames, Law.{AreAsOne, HasOneHome, IsAnsweredAsOne, IsAnsweredAlike}, Moves.{AreAdoptedOnce, IsAdoptedAgain}, Possible.{IsPrintedAgain, MayFollow, MayServeAll}};
 
 /// Whatever desks serve, whatever moves between them: of each device one desk has it at most.
 pub fn device_has_one_home()

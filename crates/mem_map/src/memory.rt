@@ -1,10 +1,8 @@
 ghost use Rattle.std.specs.Prelude.{◌≡◌, ◌+◌, ◌-◌, ◌*◌, ◌/◌, ◌&&◌, ◌∷◌, [], List, IfOk, IfSome, IsSome, IsTrue, ◌↔◌, length, vec_len};
 ghost use Rattle.word_arith.specs.declared.size.Size.{Size};
 ghost use Rattle.bus_signals.specs.Address.{even};
-ghost use Rattle.part_definitions.specs.Memory.{PowerOn, ShownFlags, MemoryWrite, no_flags, byte_at, number_at, with_number, bytes_from};
-ghost use Rattle.part_definitions.specs.Metadata.{bounds_in};
-ghost use Rattle.mem_map.specs.Image.{power_on_of};
-ghost use Rattle.mem_map.specs.Span.{is_span};
+ghost use Rattle.part_definitions.specs.{Memory.{PowerOn, ShownFlags, MemoryWrite, no_flags, byte_at, number_at, with_number, bytes_from}, Metadata.bounds_in};
+ghost use Rattle.mem_map.specs.{Image.power_on_of, Span.is_span};
 
 use crate::image::Image;
 use crate::place::{PLACES, is_image_place, is_span, rom_byte, takes_write};

@@ -2,11 +2,7 @@
 use Rattle.std.proofs.Common.{◌≡◌, ◌∙◌, ap, ℕ, Bool, ◌||◌, List, ◌∷◌, OnOk, Result, Ok, Err}
 use Rattle.text_scan.specs.declared.word_fault.WordFault.{WordFault}
 use Rattle.asm_text.specs.declared.statement.Statement.{Statement}
-use Rattle.msp_asm.specs.Value.{Scope}
-use Rattle.msp_asm.specs.declared.first_pass.FirstPass.{FirstPass}
-use Rattle.msp_asm.specs.FirstPass.{scope_after, is_placed, next_scope, places_byte}
-use Rattle.msp_asm.specs.FirstPassState.{occupies}
-use Rattle.msp_asm.specs.FirstPassStands.{scope_of, FirstPassStandsFor}
+use Rattle.msp_asm.specs.{Value.Scope, declared.first_pass.FirstPass.FirstPass, FirstPass.{scope_after, is_placed, next_scope, places_byte}, FirstPassState.occupies, FirstPassStands.{scope_of, FirstPassStandsFor}}
 
 stands_next : (earlier : List Statement) (statement : Statement)
     (old new : FirstPass)

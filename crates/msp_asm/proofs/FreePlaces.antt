@@ -5,12 +5,9 @@ use Rattle.std.specs.Option.{option_or}
 use Rattle.std.proofs.lemmas.Bool.{and_parts, and_from, or_parts, not-true, not_from_false}
 use Rattle.std.proofs.lemmas.Bool.Decides.{eqb_tells, nat_tests}
 use Rattle.part_definitions.specs.Memory.{is_image_place}
-use Rattle.text_scan.specs.declared.fault_kind.FaultKind.{FaultKind}
-use Rattle.text_scan.specs.declared.fault_kind.FaultKind.TheVariants.{Twice, Place, Overlap}
+use Rattle.text_scan.specs.{declared.fault_kind.FaultKind.{FaultKind, TheVariants.{Twice, Place, Overlap}}}
 use Rattle.asm_text.specs.declared.statement.Statement.{Statement}
-use Rattle.msp_asm.specs.Value.{Scope}
-use Rattle.msp_asm.specs.Statement.{size_of, is_of_words}
-use Rattle.msp_asm.specs.FirstPass.{first_pass_fault, is_among, is_placed, places_from, scope_after, gives_again, constant_fault, place_fault, space_fault}
+use Rattle.msp_asm.specs.{Value.Scope, Statement.{size_of, is_of_words}, FirstPass.{first_pass_fault, is_among, is_placed, places_from, scope_after, gives_again, constant_fault, place_fault, space_fault}}
 use Rattle.msp_asm.proofs.LinesSoFar.{neither}
 
 -- a statement's places are free, and those of an image

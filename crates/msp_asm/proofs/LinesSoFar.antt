@@ -3,15 +3,9 @@ use Rattle.std.proofs.Common.{◌≡◌, ◌∙◌, ◌<◌, ◌+◌, ℕ, ap, s
 use Rattle.std.specs.Option.{option_or}
 use Rattle.std.proofs.lemmas.List.{reverse-append, take_more, get_or_append_left, get_or-append-add}
 use Rattle.std.proofs.lemmas.Bool.{cases_lt}
-use Rattle.text_scan.specs.declared.fault_at.FaultAt.{FaultAt}
-use Rattle.text_scan.specs.declared.fault_kind.FaultKind.{FaultKind}
-use Rattle.text_scan.specs.declared.word_fault.WordFault.{WordFault}
-use Rattle.text_scan.specs.declared.word_fault.WordFault.TheVariants.{Kind, Memory}
-use Rattle.text_scan.specs.Reader.{fault_in_line}
+use Rattle.text_scan.specs.{declared.{fault_at.FaultAt.FaultAt, fault_kind.FaultKind.FaultKind, word_fault.WordFault.{WordFault, TheVariants.{Kind, Memory}}}, Reader.fault_in_line}
 use Rattle.asm_text.specs.declared.statement.Statement.{Statement}
-use Rattle.msp_asm.specs.FirstPass.{at_line, first_fault}
-use Rattle.msp_asm.specs.FirstPassState.{AnswersFault}
-use Rattle.msp_asm.specs.Assembly.{IsFault}
+use Rattle.msp_asm.specs.{FirstPass.{at_line, first_fault}, FirstPassState.AnswersFault, Assembly.IsFault}
 
 abbrev pub Faults : Type 0
 Faults = List Statement → Statement → Option FaultKind

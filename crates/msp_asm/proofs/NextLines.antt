@@ -3,9 +3,7 @@ use Rattle.std.proofs.Common.{◌≡◌, ◌≤◌, ◌<◌, ◌+◌, ℕ, zero,
 use Rattle.std.proofs.lemmas.Bool.{cases_lt}
 use Rattle.outside_edge.specs.Sink.{Takes, TakesPrefix}
 use Rattle.outside_edge.proofs.SinkLemmas.{prefix_after, prefix_of_more}
-use Rattle.msp_asm.specs.declared.item.Item.{Item}
-use Rattle.msp_asm.specs.Item.{item_at}
-use Rattle.msp_asm.specs.Listing.{place_after, item_begun, with_item, items_below, listing_lines, line_at, free_after, listing}
+use Rattle.msp_asm.specs.{declared.item.Item.Item, Item.item_at, Listing.{place_after, item_begun, with_item, items_below, listing_lines, line_at, free_after, listing}}
 
 listing_lines-with : (earlier : List (ℕ × Item)) (place : ℕ) (answer : Option Item)
     → listing_lines (with_item earlier place answer) ≡ listing_lines earlier ++ line_at place answer

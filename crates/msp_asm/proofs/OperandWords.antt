@@ -2,22 +2,14 @@
 use Rattle.std.proofs.Common.{◌≡◌, refl, ℕ, ℤ, Bool, true, false, length, Option, Some, None, Result, Ok, Err, IfOk, if◌then◌else◌}
 use Rattle.std.specs.Prelude.{IsTrue, is_some}
 use Rattle.word_arith.specs.declared.size.Size.{Size}
-use Rattle.msp_decode.specs.declared.source.Source.{Source}
+use Rattle.msp_decode.specs.{declared.{source.Source.Source, constant.Gen.Gen, reg.Reg.TheVariants.{R0, R2, R3}, source_form.SourceForm.TheVariants.{Indirect as IndirectForm, IndirectInc as IndirectIncForm}}, Spelling.has_form, Completion.{source_form, source_words, dest_words}}
 use Rattle.msp_decode.specs.declared.source.Source.TheVariants as source
 use Rattle.msp_decode.specs.declared.dest.Dest.TheVariants as dest
-use Rattle.msp_decode.specs.declared.constant.Gen.{Gen}
-use Rattle.msp_decode.specs.declared.reg.Reg.TheVariants.{R0, R2, R3}
-use Rattle.msp_decode.specs.declared.source_form.SourceForm.TheVariants.{Indirect as IndirectForm, IndirectInc as IndirectIncForm}
-use Rattle.msp_decode.specs.Spelling.{has_form}
-use Rattle.msp_decode.specs.Completion.{source_form, source_words, dest_words}
-use Rattle.text_scan.specs.declared.fault_kind.FaultKind.{FaultKind}
+use Rattle.text_scan.specs.{declared.fault_kind.FaultKind.FaultKind, Reader.◌>>=◌}
 use Rattle.text_scan.specs.declared.fault_kind.FaultKind.TheVariants as fault
-use Rattle.text_scan.specs.Reader.{◌>>=◌}
-use Rattle.asm_text.specs.declared.operand.Operand.{Operand}
-use Rattle.asm_text.specs.declared.operand.Operand.TheVariants.{Reg, Imm, Abs, Indexed, Symbolic, Indirect, IndirectInc}
+use Rattle.asm_text.specs.{declared.operand.Operand.{Operand, TheVariants.{Reg, Imm, Abs, Indexed, Symbolic, Indirect, IndirectInc}}}
 use Rattle.part_definitions.specs.AddressSum.{minus}
-use Rattle.msp_asm.specs.Value.{address_of, word_of}
-use Rattle.msp_asm.specs.Operand.{generated_constant, operand_words, immediate_word, immediate, source_of, dest_of}
+use Rattle.msp_asm.specs.{Value.{address_of, word_of}, Operand.{generated_constant, operand_words, immediate_word, immediate, source_of, dest_of}}
 
 -- what is read after something that was read
 pub read_next : {A B : Type 0} (first : Result A FaultKind) (next : A → Result B FaultKind)

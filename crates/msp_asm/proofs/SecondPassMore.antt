@@ -2,20 +2,10 @@
 use Rattle.std.proofs.Common.{◌≡◌, ◌∙◌, ◌<◌, ℕ, ℤ, ap, sym, refl, List, ◌∷◌, length, reverse, slice_index, take, Option, Some, None, Result, Ok, Err, IfOk, IsTrue, Bool, true, false, cond}
 use Rattle.std.specs.Option.{option_or}
 use Rattle.part_definitions.specs.Memory.{is_image_place}
-use Rattle.text_scan.specs.declared.text_fault.TextFault.{TextFault}
-use Rattle.text_scan.specs.declared.text_fault.TextFault.TheVariants.{At, Memory}
-use Rattle.text_scan.specs.Reader.{Reads, value_as, value_or_fault}
+use Rattle.text_scan.specs.{declared.text_fault.TextFault.{TextFault, TheVariants.{At, Memory}}, Reader.{Reads, value_as, value_or_fault}}
 use Rattle.asm_text.specs.declared.statement.Statement.{Statement}
-use Rattle.mem_map.specs.declared.image.Image.{Image}
-use Rattle.mem_map.specs.Image.{byte_in}
-use Rattle.mem_map.specs.ImagePlace.{IsImage}
-use Rattle.msp_asm.specs.Value.{Scope}
-use Rattle.msp_asm.specs.Names.{value_in}
-use Rattle.msp_asm.specs.Statement.{bytes_of}
-use Rattle.msp_asm.specs.declared.assembly.Layout.{Layout}
-use Rattle.msp_asm.specs.FirstPass.{first_fault, first_pass_fault, scope_after}
-use Rattle.msp_asm.specs.SecondPass.{byte_from, byte_placed, scope_among, second_pass_fault, byte_of_image, image_of}
-use Rattle.msp_asm.specs.Assembly.{AnswersAt, LayoutStandsFor}
+use Rattle.mem_map.specs.{declared.image.Image.Image, Image.byte_in, ImagePlace.IsImage}
+use Rattle.msp_asm.specs.{Value.Scope, Names.value_in, Statement.bytes_of, declared.assembly.Layout.Layout, FirstPass.{first_fault, first_pass_fault, scope_after}, SecondPass.{byte_from, byte_placed, scope_among, second_pass_fault, byte_of_image, image_of}, Assembly.{AnswersAt, LayoutStandsFor}}
 
 same_scope : (names other : List ℕ → Option ℤ) (here there : ℕ)
     → names ≡ other

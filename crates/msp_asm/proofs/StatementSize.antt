@@ -4,17 +4,10 @@ use Rattle.std.proofs.lemmas.List.{length-append}
 use Rattle.word_arith.specs.declared.size.Size.{Size}
 use Rattle.word_arith.specs.declared.size.Size.TheVariants as sizes
 use Rattle.msp_decode.specs.Completion.{words_of}
-use Rattle.text_scan.specs.declared.fault_kind.FaultKind.{FaultKind}
-use Rattle.text_scan.specs.Reader.{◌>>=◌}
-use Rattle.asm_text.specs.declared.body.Body.{Body}
-use Rattle.asm_text.specs.declared.body.Body.TheVariants.{Empty, Instr as Instruction, Org, Word, Byte, Ascii, Equ}
-use Rattle.asm_text.specs.Expr.{SignedTerm}
-use Rattle.msp_asm.specs.Value.{Scope, value, known_value, each, word_of, byte_of}
-use Rattle.asm_text.specs.Form.{form_of}
-use Rattle.msp_asm.specs.Instruction.{Operands, form_size}
-use Rattle.msp_asm.specs.Statement.{size_of, bytes_of, named_instruction, word_bytes, value_bytes, all_bytes, values_of}
-use Rattle.msp_asm.proofs.OperandWords.{read_next, read_then}
-use Rattle.msp_asm.proofs.InstructionWords.{HasWords, instruction_has_words}
+use Rattle.text_scan.specs.{declared.fault_kind.FaultKind.FaultKind, Reader.◌>>=◌}
+use Rattle.asm_text.specs.{declared.body.Body.{Body, TheVariants.{Empty, Instr as Instruction, Org, Word, Byte, Ascii, Equ}}, Expr.SignedTerm, Form.form_of}
+use Rattle.msp_asm.specs.{Value.{Scope, value, known_value, each, word_of, byte_of}, Instruction.{Operands, form_size}, Statement.{size_of, bytes_of, named_instruction, word_bytes, value_bytes, all_bytes, values_of}}
+use Rattle.msp_asm.proofs.{OperandWords.{read_next, read_then}, InstructionWords.{HasWords, instruction_has_words}}
 
 pub length-word_bytes : (words : List ℕ) → length (flat_map word_bytes words) ≡ 2 * length words
 length-word_bytes [] = refl

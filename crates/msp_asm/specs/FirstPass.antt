@@ -7,15 +7,9 @@ use Rattle.std.specs.Map.{update}
 use Rattle.std.specs.Str.{bytes_eq}
 use Rattle.bus_signals.specs.Map.{program_region}
 use Rattle.part_definitions.specs.Memory.{is_image_place}
-use Rattle.text_scan.specs.declared.fault_at.FaultAt.{FaultAt}
-use Rattle.text_scan.specs.declared.fault_kind.FaultKind.{FaultKind}
-use Rattle.text_scan.specs.declared.fault_kind.FaultKind.TheVariants.{Twice, Place, Overlap}
-use Rattle.text_scan.specs.Reader.{◌>>=◌}
-use Rattle.asm_text.specs.declared.body.Body.{Body}
-use Rattle.asm_text.specs.declared.body.Body.TheVariants.{Empty, Instr as Instruction, Org, Word, Byte, Ascii, Equ}
-use Rattle.asm_text.specs.declared.statement.Statement.{Statement}
-use Rattle.msp_asm.specs.Value.{Scope, value, known_value, address_of, word_of}
-use Rattle.msp_asm.specs.Statement.{size_of, is_of_words}
+use Rattle.text_scan.specs.{declared.{fault_at.FaultAt.FaultAt, fault_kind.FaultKind.{FaultKind, TheVariants.{Twice, Place, Overlap}}}, Reader.◌>>=◌}
+use Rattle.asm_text.specs.{declared.{body.Body.{Body, TheVariants.{Empty, Instr as Instruction, Org, Word, Byte, Ascii, Equ}}, statement.Statement.Statement}}
+use Rattle.msp_asm.specs.{Value.{Scope, value, known_value, address_of, word_of}, Statement.{size_of, is_of_words}}
 
 -- the name that a body gives
 abbrev pub constant_name : Body → Option (List ℕ)

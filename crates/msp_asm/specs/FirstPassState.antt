@@ -1,10 +1,7 @@
 -- What is said of the first pass on its way.
 use Rattle.std.specs.Prelude.{◌≡◌, ℕ, Bool, Option, Some, None, is_some, Result, Ok, Err}
-use Rattle.text_scan.specs.declared.fault_kind.FaultKind.{FaultKind}
-use Rattle.text_scan.specs.declared.word_fault.WordFault.{WordFault}
-use Rattle.text_scan.specs.declared.word_fault.WordFault.TheVariants.{Kind, Memory}
-use Rattle.mem_map.specs.declared.image.Image.{Image}
-use Rattle.mem_map.specs.Image.{byte_in}
+use Rattle.text_scan.specs.{declared.{fault_kind.FaultKind.FaultKind, word_fault.WordFault.{WordFault, TheVariants.{Kind, Memory}}}}
+use Rattle.mem_map.specs.{declared.image.Image.Image, Image.byte_in}
 
 -- an image has a byte there
 abbrev pub occupies : Image → ℕ → Bool

@@ -1,16 +1,9 @@
 -- What stands in the image of a source.
 use Rattle.std.specs.Prelude.{◌≡◌, ◌+◌, ℕ, List, [], ◌∷◌, ◌++◌, reverse, Option, Some, IsOkAnd, Ok}
 use Rattle.std.specs.List.{flat_map}
-use Rattle.msp_decode.specs.declared.instr.Instr.{Instr}
-use Rattle.msp_decode.specs.Completion.{words_of}
-use Rattle.msp_decode.specs.Law.{AreReadAs}
-use Rattle.asm_text.specs.declared.body.Body.{Body}
-use Rattle.asm_text.specs.declared.body.Body.TheVariants.{Empty, Instr as Instruction, Org, Word, Byte, Ascii, Equ}
-use Rattle.asm_text.specs.declared.statement.Statement.{Statement}
-use Rattle.asm_text.specs.Source.{source_of}
-use Rattle.msp_asm.specs.Value.{Scope}
-use Rattle.msp_asm.specs.Statement.{bytes_of, named_instruction, word_bytes}
-use Rattle.msp_asm.specs.SecondPass.{scope_among}
+use Rattle.msp_decode.specs.{declared.instr.Instr.Instr, Completion.words_of, Law.AreReadAs}
+use Rattle.asm_text.specs.{declared.{body.Body.{Body, TheVariants.{Empty, Instr as Instruction, Org, Word, Byte, Ascii, Equ}}, statement.Statement.Statement}, Source.source_of}
+use Rattle.msp_asm.specs.{Value.Scope, Statement.{bytes_of, named_instruction, word_bytes}, SecondPass.scope_among}
 
 -- bytes stand in an image from a place upwards
 abbrev pub HasBytes : (ℕ → Option ℕ) → ℕ → List ℕ → Type 0

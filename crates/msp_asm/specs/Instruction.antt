@@ -1,30 +1,15 @@
 -- The instruction that a statement names, at its address.
 use Rattle.std.specs.Prelude.{◌+◌, ◌-◌, ◌*◌, ◌/◌, ◌%◌, ◌==◌, ◌&&◌, ℕ, ℤ, pos, neg_ℤ, Bool, not, ◌||◌, nat_le, if◌then◌else◌, Option, None, Result, Ok, Err}
 use Rattle.word_arith.specs.declared.size.Size.{Size}
-use Rattle.msp_decode.specs.declared.source.Source.{Source}
+use Rattle.msp_decode.specs.{declared.{source.Source.Source, dest.Dest.Dest, one.One.One as OneOp, cond.Cond.Cond, reg.Reg.TheVariants.R1, instr.Instr.Instr}, Spelling.{has_size, has_range, takes_result, writes_operand}, Completion.source_form}
 use Rattle.msp_decode.specs.declared.source.Source.TheVariants as source
-use Rattle.msp_decode.specs.declared.dest.Dest.{Dest}
 use Rattle.msp_decode.specs.declared.dest.Dest.TheVariants as dest
-use Rattle.msp_decode.specs.declared.one.One.{One as OneOp}
-use Rattle.msp_decode.specs.declared.cond.Cond.{Cond}
-use Rattle.msp_decode.specs.declared.reg.Reg.TheVariants.{R1}
-use Rattle.msp_decode.specs.declared.instr.Instr.{Instr}
 use Rattle.msp_decode.specs.declared.instr.Instr.TheVariants as instr
-use Rattle.msp_decode.specs.Spelling.{has_size, has_range, takes_result, writes_operand}
-use Rattle.msp_decode.specs.Completion.{source_form}
 use Rattle.part_definitions.specs.AddressSum.{plus}
-use Rattle.text_scan.specs.declared.fault_kind.FaultKind.{FaultKind}
+use Rattle.text_scan.specs.{declared.fault_kind.FaultKind.FaultKind, Reader.◌>>=◌}
 use Rattle.text_scan.specs.declared.fault_kind.FaultKind.TheVariants as fault
-use Rattle.text_scan.specs.Reader.{◌>>=◌}
-use Rattle.asm_text.specs.declared.operand.Operand.{Operand}
-use Rattle.asm_text.specs.declared.form.Form.{Form}
-use Rattle.asm_text.specs.declared.form.Form.TheVariants.{Two, One, Reti, Jump}
-use Rattle.asm_text.specs.declared.form.SourceRole.{SourceRole}
-use Rattle.asm_text.specs.declared.form.SourceRole.TheVariants.{First, Constant, StackTop}
-use Rattle.asm_text.specs.declared.form.DestRole.{DestRole}
-use Rattle.asm_text.specs.declared.form.DestRole.TheVariants.{First as OnlyDest, Second, Register}
-use Rattle.msp_asm.specs.Value.{Scope, value, known_value, address_of}
-use Rattle.msp_asm.specs.Operand.{expr_in, operand_words, source_of, dest_of}
+use Rattle.asm_text.specs.{declared.{operand.Operand.Operand, form.{Form.{Form, TheVariants.{Two, One, Reti, Jump}}, SourceRole.{SourceRole, TheVariants.{First, Constant, StackTop}}, DestRole.{DestRole, TheVariants.{First as OnlyDest, Second, Register}}}}}
+use Rattle.msp_asm.specs.{Value.{Scope, value, known_value, address_of}, Operand.{expr_in, operand_words, source_of, dest_of}}
 
 -- the operands of a statement, in the order written
 pub record Operands : Type 0 where

@@ -1,11 +1,8 @@
 -- The items of a listing: what stands at a place of an image.
 use Rattle.std.specs.Prelude.{◌+◌, ◌*◌, ◌%◌, ◌==◌, ℕ, zero, suc, Option, Some, None, length, nat_le, if◌then◌else◌}
 use Rattle.bus_signals.specs.Map.{vector_region}
-use Rattle.msp_decode.specs.declared.head.Head.{Head}
-use Rattle.msp_decode.specs.Completion.{extension_count, completion, words_of}
-use Rattle.msp_decode.specs.Head.{head_of}
-use Rattle.msp_asm.specs.declared.item.Item.{Item}
-use Rattle.msp_asm.specs.declared.item.Item.TheVariants.{Byte, Word, Instruction}
+use Rattle.msp_decode.specs.{declared.head.Head.Head, Completion.{extension_count, completion, words_of}, Head.head_of}
+use Rattle.msp_asm.specs.{declared.item.Item.{Item, TheVariants.{Byte, Word, Instruction}}}
 
 -- the little-endian word at a place, where the image has both of its bytes
 abbrev pub word_of_bytes : Option ℕ → Option ℕ → Option ℕ

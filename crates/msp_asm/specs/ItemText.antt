@@ -1,23 +1,11 @@
 -- The text of an item: mnemonics and operands in lower case, as the assembler reads them.
 use Rattle.std.specs.Prelude.{◌++◌, ℕ, List, [], codes}
-use Rattle.word_arith.specs.declared.size.Size.{Size}
-use Rattle.word_arith.specs.declared.size.Size.TheVariants.{Byte as ByteSize, Word as WordSize}
-use Rattle.msp_decode.specs.declared.reg.Reg.{Reg}
-use Rattle.msp_decode.specs.declared.reg.Reg.TheVariants.{R2}
-use Rattle.msp_decode.specs.declared.constant.Gen.{Gen}
-use Rattle.msp_decode.specs.declared.constant.Gen.TheVariants.{Zero, One as PlusOne, Two as PlusTwo, Four, Eight, MinusOne}
-use Rattle.msp_decode.specs.declared.source.Source.{Source}
-use Rattle.msp_decode.specs.declared.source.Source.TheVariants.{Reg as Register, Indexed, Indirect, IndirectInc, Immediate, Constant}
-use Rattle.msp_decode.specs.declared.dest.Dest.{Dest}
-use Rattle.msp_decode.specs.declared.dest.Dest.TheVariants.{Reg as DestRegister, Indexed as DestIndexed}
-use Rattle.msp_decode.specs.declared.instr.Instr.{Instr}
-use Rattle.msp_decode.specs.declared.instr.Instr.TheVariants.{Two, One as OneOperand, Reti, Jump}
+use Rattle.word_arith.specs.{declared.size.Size.{Size, TheVariants.{Byte as ByteSize, Word as WordSize}}}
+use Rattle.msp_decode.specs.{declared.{reg.Reg.{Reg, TheVariants.R2}, constant.Gen.{Gen, TheVariants.{Zero, One as PlusOne, Two as PlusTwo, Four, Eight, MinusOne}}, source.Source.{Source, TheVariants.{Reg as Register, Indexed, Indirect, IndirectInc, Immediate, Constant}}, dest.Dest.{Dest, TheVariants.{Reg as DestRegister, Indexed as DestIndexed}}, instr.Instr.{Instr, TheVariants.{Two, One as OneOperand, Reti, Jump}}}}
 use Rattle.asm_text.specs.Name.{op2_name, one_name, jump_name, reg_name}
-use Rattle.part_definitions.specs.AddressSum.{plus}
-use Rattle.part_definitions.specs.Instruction.{jump_target}
+use Rattle.part_definitions.specs.{AddressSum.plus, Instruction.jump_target}
 use Rattle.printed_lines.specs.Line.{byte_digits, word_digits}
-use Rattle.msp_asm.specs.declared.item.Item.{Item}
-use Rattle.msp_asm.specs.declared.item.Item.TheVariants.{Byte, Word, Instruction}
+use Rattle.msp_asm.specs.{declared.item.Item.{Item, TheVariants.{Byte, Word, Instruction}}}
 
 -- numbers are hexadecimal
 abbrev pub word_text : ℕ → List ℕ

@@ -1,10 +1,7 @@
 -- The lines of a listing.
 use Rattle.std.specs.Prelude.{◌≡◌, ◌≤◌, ◌+◌, ◌++◌, ℕ, zero, suc, List, [], ◌∷◌, take, codes, Option, Some, None, nat_le, if◌then◌else◌}
 use Rattle.printed_lines.specs.Line.{word_digits}
-use Rattle.msp_asm.specs.declared.item.Item.{Item}
-use Rattle.msp_asm.specs.declared.listing.Listing.{Listing}
-use Rattle.msp_asm.specs.Item.{item_at, item_size}
-use Rattle.msp_asm.specs.ItemText.{item_text}
+use Rattle.msp_asm.specs.{declared.{item.Item.Item, listing.Listing.Listing}, Item.{item_at, item_size}, ItemText.item_text}
 
 -- the address, and the item
 abbrev pub line_text : ℕ → Item → List ℕ

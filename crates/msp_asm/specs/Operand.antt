@@ -1,24 +1,13 @@
 -- Operands, as they are written and as an instruction has them.
 use Rattle.std.specs.Prelude.{◌==◌, ℕ, ℤ, pos, negsuc, Bool, List, [], ◌∷◌, if◌then◌else◌, Option, Some, None, is_some, Result, Ok, Err}
-use Rattle.word_arith.specs.declared.size.Size.{Size}
-use Rattle.word_arith.specs.declared.size.Size.TheVariants.{Byte, Word}
-use Rattle.msp_decode.specs.declared.reg.Reg.TheVariants.{R0, R2, R3}
-use Rattle.msp_decode.specs.declared.constant.Gen.{Gen}
+use Rattle.word_arith.specs.{declared.size.Size.{Size, TheVariants.{Byte, Word}}}
+use Rattle.msp_decode.specs.{declared.{reg.Reg.TheVariants.{R0, R2, R3}, constant.Gen.Gen, source.Source.Source, dest.Dest.Dest}, Completion.source_form, Spelling.has_form}
 use Rattle.msp_decode.specs.declared.constant.Gen.TheVariants as gen
-use Rattle.msp_decode.specs.declared.source.Source.{Source}
 use Rattle.msp_decode.specs.declared.source.Source.TheVariants as source
-use Rattle.msp_decode.specs.declared.dest.Dest.{Dest}
 use Rattle.msp_decode.specs.declared.dest.Dest.TheVariants as dest
-use Rattle.msp_decode.specs.Completion.{source_form}
-use Rattle.msp_decode.specs.Spelling.{has_form}
-use Rattle.text_scan.specs.declared.fault_kind.FaultKind.{FaultKind}
+use Rattle.text_scan.specs.{declared.fault_kind.FaultKind.FaultKind, Reader.◌>>=◌}
 use Rattle.text_scan.specs.declared.fault_kind.FaultKind.TheVariants as fault
-use Rattle.text_scan.specs.Reader.{◌>>=◌}
-use Rattle.asm_text.specs.declared.term.Term.{Term}
-use Rattle.asm_text.specs.declared.term.Term.TheVariants.{Number, Name, Here}
-use Rattle.asm_text.specs.declared.operand.Operand.{Operand}
-use Rattle.asm_text.specs.declared.operand.Operand.TheVariants.{Reg, Imm, Abs, Indexed, Symbolic, Indirect, IndirectInc}
-use Rattle.asm_text.specs.Expr.{SignedTerm}
+use Rattle.asm_text.specs.{declared.{term.Term.{Term, TheVariants.{Number, Name, Here}}, operand.Operand.{Operand, TheVariants.{Reg, Imm, Abs, Indexed, Symbolic, Indirect, IndirectInc}}}, Expr.SignedTerm}
 use Rattle.part_definitions.specs.AddressSum.{minus}
 use Rattle.msp_asm.specs.Value.{with_sign, address_of, word_of, byte_immediate_of}
 

@@ -1,7 +1,6 @@
 -- The operands of a statement of the program.
 use Rattle.std.specs.Prelude.{option_map}
-use Rattle.msp_asm.specs.declared.instruction.Operands.{Operands as OperandsOf}
-use Rattle.msp_asm.specs.Instruction.{Operands}
+use Rattle.msp_asm.specs.{declared.instruction.Operands.Operands as OperandsOf, Instruction.Operands}
 
 abbrev pub operands_in : OperandsOf → Operands
 operands_in operands =

@@ -4,13 +4,9 @@ use Rattle.std.specs.Option.{option_or}
 use Rattle.std.specs.Result.{result_err}
 use Rattle.part_definitions.specs.Memory.{is_image_place}
 use Rattle.mem_map.specs.ByteAmong.{byte_among}
-use Rattle.text_scan.specs.declared.fault_at.FaultAt.{FaultAt}
-use Rattle.text_scan.specs.declared.fault_kind.FaultKind.{FaultKind}
-use Rattle.text_scan.specs.Reader.{value_or_fault}
+use Rattle.text_scan.specs.{declared.{fault_at.FaultAt.FaultAt, fault_kind.FaultKind.FaultKind}, Reader.value_or_fault}
 use Rattle.asm_text.specs.declared.statement.Statement.{Statement}
-use Rattle.msp_asm.specs.Value.{Scope}
-use Rattle.msp_asm.specs.Statement.{bytes_of}
-use Rattle.msp_asm.specs.FirstPass.{scope_after, first_fault, first_pass_fault}
+use Rattle.msp_asm.specs.{Value.Scope, Statement.bytes_of, FirstPass.{scope_after, first_fault, first_pass_fault}}
 
 -- what a statement after these is read in: at the same place, with the names of all statements
 abbrev pub scope_among : List Statement → List Statement → Scope

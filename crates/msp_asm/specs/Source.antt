@@ -1,7 +1,6 @@
 -- The image of a source.
 use Rattle.std.specs.Prelude.{ℕ, List, Option, Result}
-use Rattle.text_scan.specs.declared.fault_at.FaultAt.{FaultAt}
-use Rattle.text_scan.specs.Reader.{◌>>=◌}
+use Rattle.text_scan.specs.{declared.fault_at.FaultAt.FaultAt, Reader.◌>>=◌}
 use Rattle.asm_text.specs.Source.{source_of}
 use Rattle.msp_asm.specs.SecondPass.{image_of}
 

@@ -3,19 +3,10 @@ use Rattle.std.specs.Prelude.{◌≡◌, ◌*◌, ◌/◌, ◌%◌, ℕ, ℤ, Bo
 use Rattle.std.specs.List.{flat_map}
 use Rattle.word_arith.specs.declared.size.Size.{Size}
 use Rattle.word_arith.specs.declared.size.Size.TheVariants as sizes
-use Rattle.msp_decode.specs.declared.instr.Instr.{Instr}
-use Rattle.msp_decode.specs.Completion.{words_of}
-use Rattle.msp_decode.specs.Law.{AreReadAs}
-use Rattle.text_scan.specs.declared.fault_kind.FaultKind.{FaultKind}
-use Rattle.text_scan.specs.Reader.{◌>>=◌}
-use Rattle.asm_text.specs.declared.mnemonic.Mnemonic.{Mnemonic}
-use Rattle.asm_text.specs.declared.operand.Operand.{Operand}
-use Rattle.asm_text.specs.declared.body.Body.{Body}
-use Rattle.asm_text.specs.declared.body.Body.TheVariants.{Empty, Instr as Instruction, Org, Word, Byte, Ascii, Equ}
-use Rattle.asm_text.specs.Expr.{SignedTerm}
-use Rattle.msp_asm.specs.Value.{Scope, value, known_value, each, word_of, byte_of}
-use Rattle.asm_text.specs.Form.{form_of}
-use Rattle.msp_asm.specs.Instruction.{form_size, instruction_of}
+use Rattle.msp_decode.specs.{declared.instr.Instr.Instr, Completion.words_of, Law.AreReadAs}
+use Rattle.text_scan.specs.{declared.fault_kind.FaultKind.FaultKind, Reader.◌>>=◌}
+use Rattle.asm_text.specs.{declared.{mnemonic.Mnemonic.Mnemonic, operand.Operand.Operand, body.Body.{Body, TheVariants.{Empty, Instr as Instruction, Org, Word, Byte, Ascii, Equ}}}, Expr.SignedTerm, Form.form_of}
+use Rattle.msp_asm.specs.{Value.{Scope, value, known_value, each, word_of, byte_of}, Instruction.{form_size, instruction_of}}
 
 -- how many bytes a statement places
 abbrev pub size_of : Body → ℕ

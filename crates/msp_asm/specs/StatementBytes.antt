@@ -1,9 +1,7 @@
 -- What is said of bytes on their way.
 use Rattle.std.specs.Prelude.{◌≡◌, ◌++◌, ℕ, ℤ, List, Result, Ok, Err}
 use Rattle.std.specs.Global.{Vec}
-use Rattle.text_scan.specs.declared.fault_kind.FaultKind.{FaultKind}
-use Rattle.text_scan.specs.declared.word_fault.WordFault.{WordFault}
-use Rattle.text_scan.specs.declared.word_fault.WordFault.TheVariants.{Kind, Memory}
+use Rattle.text_scan.specs.{declared.{fault_kind.FaultKind.FaultKind, word_fault.WordFault.{WordFault, TheVariants.{Kind, Memory}}}}
 
 -- bytes were added, or the fault was answered
 abbrev pub AddsBytes : Result Unit WordFault → List ℕ → List ℕ → Result (List ℕ) FaultKind → Type 0

@@ -1,11 +1,7 @@
 -- The value of an expression.
 use Rattle.std.specs.Prelude.{◌+ℤ◌, ◌-◌, ℕ, ℤ, pos, negsuc, neg_ℤ, Bool, nat_le, nat_lt, List, [], ◌∷◌, if◌then◌else◌, Option, Some, None, Result, Ok, Err}
-use Rattle.text_scan.specs.declared.fault_kind.FaultKind.{FaultKind}
-use Rattle.text_scan.specs.declared.fault_kind.FaultKind.TheVariants.{Undefined, Range}
-use Rattle.text_scan.specs.Reader.{◌>>=◌}
-use Rattle.asm_text.specs.declared.term.Term.{Term}
-use Rattle.asm_text.specs.declared.term.Term.TheVariants.{Number, Name, Here}
-use Rattle.asm_text.specs.Expr.{SignedTerm}
+use Rattle.text_scan.specs.{declared.fault_kind.FaultKind.{FaultKind, TheVariants.{Undefined, Range}}, Reader.◌>>=◌}
+use Rattle.asm_text.specs.{declared.term.Term.{Term, TheVariants.{Number, Name, Here}}, Expr.SignedTerm}
 
 -- what an expression is read in: the values of names, and the address of the statement's first byte
 pub record Scope : Type 0 where

@@ -1,10 +1,7 @@
 ghost use Rattle.std.specs.Prelude.{◌≡◌, IfOk, length};
-ghost use Rattle.msp_decode.specs.declared.instr.Instr.{Instr};
-ghost use Rattle.msp_decode.specs.Completion.{words_of};
-ghost use Rattle.msp_decode.specs.Law.{AreReadAs};
+ghost use Rattle.msp_decode.specs.{declared.instr.Instr.Instr, Completion.words_of, Law.AreReadAs};
 ghost use Rattle.asm_text.specs.declared.body.Body.{Body};
-ghost use Rattle.msp_asm.specs.Value.{Scope};
-ghost use Rattle.msp_asm.specs.Statement.{size_of, bytes_of, IsNamed};
+ghost use Rattle.msp_asm.specs.{Value.Scope, Statement.{size_of, bytes_of, IsNamed}};
 
 use msp_decode::words_are_read;
 

@@ -1,6 +1,5 @@
 ghost use Rattle.std.specs.Prelude.{◌≡◌, ◌<◌, ◌≤◌, length};
-ghost use Rattle.msp_decode.specs.Completion.{source_words, dest_words, words_of};
-ghost use Rattle.msp_decode.specs.Head.{head_of};
+ghost use Rattle.msp_decode.specs.{Completion.{source_words, dest_words, words_of}, Head.head_of};
 ghost use Rattle.mem_map.specs.Image.{byte_in};
 ghost use Rattle.msp_asm.specs.Item.{FIRST_VECTOR, word_in, instruction_item, item_at, item_size};
 

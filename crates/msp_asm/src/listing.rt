@@ -1,7 +1,6 @@
 ghost use Rattle.std.specs.Prelude.{Option, Some};
 ghost use Rattle.mem_map.specs.Image.{byte_in};
-ghost use Rattle.msp_asm.specs.Item.{item_at};
-ghost use Rattle.msp_asm.specs.Listing.{IsLineAt};
+ghost use Rattle.msp_asm.specs.{Item.item_at, Listing.IsLineAt};
 
 use crate::item::Item;
 use crate::item_text::push_item;

@@ -1,8 +1,7 @@
 ghost use Rattle.std.specs.Prelude.{◌≡◌, ◌<◌, IfOk};
 ghost use Rattle.mem_map.specs.Image.{byte_in};
 ghost use Rattle.outside_edge.specs.Sink.{Puts, CountsFaults};
-ghost use Rattle.msp_asm.specs.Item.{item_at};
-ghost use Rattle.msp_asm.specs.Listing.{item_begun, line_at, free_after, listing};
+ghost use Rattle.msp_asm.specs.{Item.item_at, Listing.{item_begun, line_at, free_after, listing}};
 
 use crate::listing::line;
 use mem_map::Image;

@@ -1,9 +1,7 @@
 ghost use Rattle.std.specs.Prelude.{◌≡◌, ◌≤◌, [], pos, IfOk, IsTrue, option_map};
 ghost use Rattle.std.specs.Option.{option_map_or};
-ghost use Rattle.msp_decode.specs.Completion.{source_form};
-ghost use Rattle.msp_decode.specs.Spelling.{has_form};
-ghost use Rattle.msp_asm.specs.Value.{with_sign};
-ghost use Rattle.msp_asm.specs.Operand.{expr_in, constant_of, all_ones, generated_constant, operand_words, immediate, source_of, dest_of};
+ghost use Rattle.msp_decode.specs.{Completion.source_form, Spelling.has_form};
+ghost use Rattle.msp_asm.specs.{Value.with_sign, Operand.{expr_in, constant_of, all_ones, generated_constant, operand_words, immediate, source_of, dest_of}};
 
 use crate::number::{address_of, byte_immediate_of, word_of};
 use asm_text::{Expr, Operand, Term};

@@ -1,10 +1,8 @@
 ghost use Rattle.std.specs.Prelude.{◌≡◌, ◌++◌, OnOk, None};
 ghost use Rattle.std.specs.List.{flat_map};
-ghost use Rattle.msp_decode.specs.Completion.{head_part, words_of};
-ghost use Rattle.msp_decode.specs.EncodeFault.{first_fault};
+ghost use Rattle.msp_decode.specs.{Completion.{head_part, words_of}, EncodeFault.first_fault};
 ghost use Rattle.text_scan.specs.Reader.{ReadsWord};
-ghost use Rattle.msp_asm.specs.Statement.{size_of, is_of_words, word_bytes, value_bytes, all_bytes};
-ghost use Rattle.msp_asm.specs.StatementBytes.{AddsBytes};
+ghost use Rattle.msp_asm.specs.{Statement.{size_of, is_of_words, word_bytes, value_bytes, all_bytes}, StatementBytes.AddsBytes};
 
 use crate::bytes_law::named_instructions_are_read;
 use crate::instruction::{Operands, form_size};
@@ -94,9 +92,7 @@ impl Scope<'_, '_> {
     ghost use Rattle.std.specs.Prelude.{IfOk};
     ghost use Rattle.msp_decode.specs.declared.instr.Instr.{Instr};
     ghost use Rattle.text_scan.specs.Reader.{ReadsWord};
-    ghost use Rattle.msp_asm.specs.Scope.{scope_in};
-    ghost use Rattle.msp_asm.specs.Statement.{values_of, bytes_of, IsNamed, AreBytesOf};
-    ghost use Rattle.msp_asm.specs.StatementBytes.{GivesValues, AddsBytes};
+    ghost use Rattle.msp_asm.specs.{Scope.scope_in, Statement.{values_of, bytes_of, IsNamed, AreBytesOf}, StatementBytes.{GivesValues, AddsBytes}};
 
     // The values of expressions.
     fn values(&self, alloc: Global, exprs: &[Expr<'_>]) -> Result<Vec<i128>, WordFault>

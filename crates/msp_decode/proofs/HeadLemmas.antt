@@ -2,21 +2,9 @@
 use Rattle.std.proofs.Common.{◌≡◌, ℕ, ◌<◌, ◌≤◌, ◌/◌, ◌%◌, ◌^◌, ◌↔◌, ℤ, Bool, true, false, refl, ap, sym, ◌∙◌, subst, arith, Option, Some, None, if◌then◌else◌}
 use Rattle.std.specs.Prelude.{IsTrue}
 use Rattle.std.proofs.lemmas.Bool.Decides.{nat_tests}
-use Rattle.word_arith.specs.declared.size.Size.{Size}
-use Rattle.word_arith.specs.declared.op2.Op2.{Op2}
-use Rattle.msp_decode.specs.declared.one.One.{One}
-use Rattle.msp_decode.specs.declared.cond.Cond.{Cond}
-use Rattle.msp_decode.specs.declared.source_form.SourceForm.{SourceForm}
-use Rattle.msp_decode.specs.declared.dest_form.DestForm.{DestForm}
-use Rattle.msp_decode.specs.declared.head.Head.{Head}
-use Rattle.msp_decode.specs.declared.head.Head.TheVariants.{Two, One as OneOperand, Reti, Jump}
-use Rattle.msp_decode.specs.Table.{op2_number, one_number, cond_number, size_number, source_mode, source_register, dest_mode, dest_register, offset_number}
-use Rattle.msp_decode.specs.Spelling.{has_form, has_range, is_legal, word_of, Spells}
-use Rattle.msp_decode.specs.Head.{one_head, two_head, jump_head, head_of}
-use Rattle.msp_decode.specs.Law.{HeadsAreSpelled}
-use Rattle.msp_decode.proofs.OneHead.{if_legal, one_of_fields, one_head-legal}
-use Rattle.msp_decode.proofs.WordRange.{by_range}
-use Rattle.msp_decode.proofs.TableLemmas.{op2_number-op2_of, op2_of-op2_number, op2_number-lt, op2_number-le, one_number-one_of, one_of-one_number, one_number-lt, cond_number-cond_of, cond_of-cond_number, cond_number-lt, size_number-size_of_bit, size_of_bit-size_number, size_number-lt, source_mode-lt, source_register-lt, source_of-fields, source_mode-source_of, source_register-source_of, has_form-source_of, dest_mode-lt, dest_register-lt, dest_of-fields, dest_mode-dest_of, dest_register-dest_of, offset_number-lt, offset_of-offset_number, offset_number-offset_of, has_range-offset_of}
+use Rattle.word_arith.specs.{declared.{size.Size.Size, op2.Op2.Op2}}
+use Rattle.msp_decode.specs.{declared.{one.One.One, cond.Cond.Cond, source_form.SourceForm.SourceForm, dest_form.DestForm.DestForm, head.Head.{Head, TheVariants.{Two, One as OneOperand, Reti, Jump}}}, Table.{op2_number, one_number, cond_number, size_number, source_mode, source_register, dest_mode, dest_register, offset_number}, Spelling.{has_form, has_range, is_legal, word_of, Spells}, Head.{one_head, two_head, jump_head, head_of}, Law.HeadsAreSpelled}
+use Rattle.msp_decode.proofs.{OneHead.{if_legal, one_of_fields, one_head-legal}, WordRange.by_range, TableLemmas.{op2_number-op2_of, op2_of-op2_number, op2_number-lt, op2_number-le, one_number-one_of, one_of-one_number, one_number-lt, cond_number-cond_of, cond_of-cond_number, cond_number-lt, size_number-size_of_bit, size_of_bit-size_number, size_number-lt, source_mode-lt, source_register-lt, source_of-fields, source_mode-source_of, source_register-source_of, has_form-source_of, dest_mode-lt, dest_register-lt, dest_of-fields, dest_mode-dest_of, dest_register-dest_of, offset_number-lt, offset_of-offset_number, offset_number-offset_of, has_range-offset_of}}
 
 -- the word of the head that is read from a word is that word
 two_spelled : (word : ℕ) → 0x4000 ≤ word → word < 0x10000 → Spells word (two_head word)

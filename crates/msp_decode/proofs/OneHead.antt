@@ -1,11 +1,7 @@
 -- A word of one operand gives the head of its fields, where that is legal.
 use Rattle.std.proofs.Common.{◌≡◌, ℕ, ◌/◌, ◌%◌, Bool, ap, sym, arith, Option, Some, None, if◌then◌else◌}
 use Rattle.std.specs.Prelude.{◌&&◌, ◌||◌, not}
-use Rattle.msp_decode.specs.declared.head.Head.{Head}
-use Rattle.msp_decode.specs.declared.head.Head.TheVariants.{One as OneOperand}
-use Rattle.msp_decode.specs.Field.{one_of, size_of_bit, source_of}
-use Rattle.msp_decode.specs.Spelling.{has_size, takes_result, writes_operand, is_legal}
-use Rattle.msp_decode.specs.Head.{one_head}
+use Rattle.msp_decode.specs.{declared.head.Head.{Head, TheVariants.One as OneOperand}, Field.{one_of, size_of_bit, source_of}, Spelling.{has_size, takes_result, writes_operand, is_legal}, Head.one_head}
 use Rattle.msp_decode.proofs.TableLemmas.{has_form-source_of}
 
 -- a head, if it is legal

@@ -3,17 +3,8 @@ use Rattle.std.proofs.Common.{◌≡◌, ℕ, ◌<◌, ◌≤◌, ℤ, refl, ari
 use Rattle.std.specs.Prelude.{IsTrue}
 use Rattle.std.proofs.lemmas.Int.{ints}
 use Rattle.std.proofs.lemmas.Bool.Decides.{nat_tests}
-use Rattle.word_arith.specs.declared.size.Size.{Size}
-use Rattle.word_arith.specs.declared.op2.Op2.{Op2}
-use Rattle.msp_decode.specs.declared.reg.Reg.{Reg}
-use Rattle.msp_decode.specs.declared.one.One.{One}
-use Rattle.msp_decode.specs.declared.cond.Cond.{Cond}
-use Rattle.msp_decode.specs.declared.source_form.SourceForm.{SourceForm}
-use Rattle.msp_decode.specs.declared.source_form.SourceForm.TheVariants.{Register, Indexed, Indirect, IndirectInc, Immediate, Constant}
-use Rattle.msp_decode.specs.declared.dest_form.DestForm.{DestForm}
-use Rattle.msp_decode.specs.Table.{reg_number, op2_number, one_number, cond_number, size_number, source_mode, source_register, dest_mode, dest_register, offset_number}
-use Rattle.msp_decode.specs.Field.{reg_of, op2_of, one_of, cond_of, size_of_bit, source_of, dest_of, offset_of}
-use Rattle.msp_decode.specs.Spelling.{has_form, has_range}
+use Rattle.word_arith.specs.{declared.{size.Size.Size, op2.Op2.Op2}}
+use Rattle.msp_decode.specs.{declared.{reg.Reg.Reg, one.One.One, cond.Cond.Cond, source_form.SourceForm.{SourceForm, TheVariants.{Register, Indexed, Indirect, IndirectInc, Immediate, Constant}}, dest_form.DestForm.DestForm}, Table.{reg_number, op2_number, one_number, cond_number, size_number, source_mode, source_register, dest_mode, dest_register, offset_number}, Field.{reg_of, op2_of, one_of, cond_of, size_of_bit, source_of, dest_of, offset_of}, Spelling.{has_form, has_range}}
 
 pub reg_of-reg_number : (x : Reg) → reg_of (reg_number x) ≡ x
 reg_of-reg_number x = grind (arith, nat_tests)

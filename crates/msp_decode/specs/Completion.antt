@@ -1,19 +1,7 @@
 -- Instructions, their heads and their extension words.
 use Rattle.std.specs.Prelude.{◌+◌, ◌++◌, ◌==◌, ℕ, List, [], ◌∷◌, if◌then◌else◌}
 use Rattle.word_arith.specs.Word16.{Word16}
-use Rattle.msp_decode.specs.declared.source.Source.{Source}
-use Rattle.msp_decode.specs.declared.source.Source.TheVariants.{Reg, Indexed, Indirect, IndirectInc, Immediate, Constant}
-use Rattle.msp_decode.specs.declared.dest.Dest.{Dest}
-use Rattle.msp_decode.specs.declared.dest.Dest.TheVariants.{Reg as DestReg, Indexed as DestIndexed}
-use Rattle.msp_decode.specs.declared.source_form.SourceForm.{SourceForm}
-use Rattle.msp_decode.specs.declared.source_form.SourceForm.TheVariants.{Register as RegisterForm, Indexed as IndexedForm, Indirect as IndirectForm, IndirectInc as IndirectIncForm, Immediate as ImmediateForm, Constant as ConstantForm}
-use Rattle.msp_decode.specs.declared.dest_form.DestForm.{DestForm}
-use Rattle.msp_decode.specs.declared.dest_form.DestForm.TheVariants.{Register as DestRegisterForm, Indexed as DestIndexedForm}
-use Rattle.msp_decode.specs.declared.instr.Instr.{Instr}
-use Rattle.msp_decode.specs.declared.instr.Instr.TheVariants.{Two, One, Reti, Jump}
-use Rattle.msp_decode.specs.declared.head.Head.{Head}
-use Rattle.msp_decode.specs.declared.head.Head.TheVariants.{Two as TwoHead, One as OneHead, Reti as RetiHead, Jump as JumpHead}
-use Rattle.msp_decode.specs.Spelling.{word_of}
+use Rattle.msp_decode.specs.{declared.{source.Source.{Source, TheVariants.{Reg, Indexed, Indirect, IndirectInc, Immediate, Constant}}, dest.Dest.{Dest, TheVariants.{Reg as DestReg, Indexed as DestIndexed}}, source_form.SourceForm.{SourceForm, TheVariants.{Register as RegisterForm, Indexed as IndexedForm, Indirect as IndirectForm, IndirectInc as IndirectIncForm, Immediate as ImmediateForm, Constant as ConstantForm}}, dest_form.DestForm.{DestForm, TheVariants.{Register as DestRegisterForm, Indexed as DestIndexedForm}}, instr.Instr.{Instr, TheVariants.{Two, One, Reti, Jump}}, head.Head.{Head, TheVariants.{Two as TwoHead, One as OneHead, Reti as RetiHead, Jump as JumpHead}}}, Spelling.word_of}
 
 -- how many extension words a source has
 abbrev pub source_extensions : SourceForm → ℕ

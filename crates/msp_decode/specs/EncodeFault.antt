@@ -1,10 +1,6 @@
 -- What has no word: the faults of an instruction, in the order in which they are tried.
 use Rattle.std.specs.Prelude.{◌&&◌, Bool, false, not, if◌then◌else◌, Option, Some, None}
-use Rattle.msp_decode.specs.declared.head.Head.{Head}
-use Rattle.msp_decode.specs.declared.head.Head.TheVariants.{Two, One, Reti, Jump}
-use Rattle.msp_decode.specs.declared.encode_fault.EncodeFault.{EncodeFault}
-use Rattle.msp_decode.specs.declared.encode_fault.EncodeFault.TheVariants.{NoByteForm, NotWritable, NoSuchForm, OffsetRange}
-use Rattle.msp_decode.specs.Spelling.{has_size, has_form, has_range, takes_result, writes_operand}
+use Rattle.msp_decode.specs.{declared.{head.Head.{Head, TheVariants.{Two, One, Reti, Jump}}, encode_fault.EncodeFault.{EncodeFault, TheVariants.{NoByteForm, NotWritable, NoSuchForm, OffsetRange}}}, Spelling.{has_size, has_form, has_range, takes_result, writes_operand}}
 
 -- SWPB, SXT or CALL of a byte
 abbrev pub lacks_byte_form : Head → Bool

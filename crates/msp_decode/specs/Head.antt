@@ -1,13 +1,7 @@
 -- The head of an instruction word, as a function that computes.
 use Rattle.std.specs.Prelude.{◌/◌, ◌%◌, ◌==◌, ◌&&◌, ◌||◌, not, nat_lt, if◌then◌else◌, Option, Some, None}
-use Rattle.word_arith.specs.declared.size.Size.{Size}
-use Rattle.word_arith.specs.Word16.{Word16}
-use Rattle.msp_decode.specs.declared.one.One.{One}
-use Rattle.msp_decode.specs.declared.source_form.SourceForm.{SourceForm}
-use Rattle.msp_decode.specs.declared.head.Head.{Head}
-use Rattle.msp_decode.specs.declared.head.Head.TheVariants.{Two, One as OneOperand, Reti, Jump}
-use Rattle.msp_decode.specs.Spelling.{has_size, takes_result, writes_operand}
-use Rattle.msp_decode.specs.Field.{op2_of, one_of, cond_of, size_of_bit, source_of, dest_of, offset_of}
+use Rattle.word_arith.specs.{declared.size.Size.Size, Word16.Word16}
+use Rattle.msp_decode.specs.{declared.{one.One.One, source_form.SourceForm.SourceForm, head.Head.{Head, TheVariants.{Two, One as OneOperand, Reti, Jump}}}, Spelling.{has_size, takes_result, writes_operand}, Field.{op2_of, one_of, cond_of, size_of_bit, source_of, dest_of, offset_of}}
 
 abbrev pub two_head : Word16 → Head
 two_head word =

@@ -1,15 +1,7 @@
 -- What an instruction word spells.
 use Rattle.std.specs.Prelude.{◌≡◌, ◌<◌, ◌≤◌, ◌⊎◌, ◌+◌, ◌*◌, ◌/◌, ◌%◌, ◌==◌, ◌&&◌, ◌||◌, ℕ, ℤ, pos, negsuc, Bool, true, false, not, nat_lt, IsTrue}
-use Rattle.word_arith.specs.declared.size.Size.{Size}
-use Rattle.word_arith.specs.declared.size.Size.TheVariants.{Byte, Word}
-use Rattle.word_arith.specs.Word16.{Word16}
-use Rattle.msp_decode.specs.declared.one.One.{One}
-use Rattle.msp_decode.specs.declared.one.One.TheVariants.{Swpb, Sxt, Push, Call}
-use Rattle.msp_decode.specs.declared.head.Head.{Head}
-use Rattle.msp_decode.specs.declared.head.Head.TheVariants.{Two, One as OneOperand, Reti, Jump}
-use Rattle.msp_decode.specs.declared.source_form.SourceForm.{SourceForm}
-use Rattle.msp_decode.specs.declared.source_form.SourceForm.TheVariants.{Register, Indexed, Indirect, IndirectInc, Immediate, Constant}
-use Rattle.msp_decode.specs.Table.{reg_number, op2_number, one_number, cond_number, size_number, source_mode, source_register, dest_mode, dest_register, offset_number}
+use Rattle.word_arith.specs.{declared.size.Size.{Size, TheVariants.{Byte, Word}}, Word16.Word16}
+use Rattle.msp_decode.specs.{declared.{one.One.{One, TheVariants.{Swpb, Sxt, Push, Call}}, head.Head.{Head, TheVariants.{Two, One as OneOperand, Reti, Jump}}, source_form.SourceForm.{SourceForm, TheVariants.{Register, Indexed, Indirect, IndirectInc, Immediate, Constant}}}, Table.{reg_number, op2_number, one_number, cond_number, size_number, source_mode, source_register, dest_mode, dest_register, offset_number}}
 
 -- SWPB, SXT and CALL are of words alone
 abbrev pub has_byte_form : One → Bool

@@ -24,8 +24,7 @@ pub enum Cond {
 }
 
 impl Cond {
-    ghost use Rattle.msp_decode.specs.Table.{cond_number};
-    ghost use Rattle.msp_decode.specs.Field.{cond_of};
+    ghost use Rattle.msp_decode.specs.{Table.cond_number, Field.cond_of};
 
     // The condition's number in a jump's word.
     pub(crate) fn number(self) -> u16

@@ -1,7 +1,5 @@
 ghost use Rattle.std.specs.Prelude.{◌≡◌, ◌↔◌, ◌<◌, ◌≤◌, IsNone};
-ghost use Rattle.msp_decode.specs.declared.head.Head.{Head};
-ghost use Rattle.msp_decode.specs.Spelling.{Spells, IsIllegalWord};
-ghost use Rattle.msp_decode.specs.Head.{head_of, one_head, two_head, jump_head};
+ghost use Rattle.msp_decode.specs.{declared.head.Head.Head, Spelling.{Spells, IsIllegalWord}, Head.{head_of, one_head, two_head, jump_head}};
 
 use crate::cond::Cond;
 use crate::dest_form::DestForm;

@@ -10,8 +10,7 @@ pub enum DestForm {
 }
 
 impl DestForm {
-    ghost use Rattle.msp_decode.specs.Table.{dest_fields};
-    ghost use Rattle.msp_decode.specs.Field.{dest_of};
+    ghost use Rattle.msp_decode.specs.{Table.dest_fields, Field.dest_of};
 
     // The mode (Ad) and the register field with which the form is written.
     pub(crate) fn fields(self) -> (u16, u16)

@@ -1,11 +1,5 @@
 ghost use Rattle.std.specs.Prelude.{◌≡◌, ◌↔◌, IsTrue, IsNone, IfOk, option_to_list};
-ghost use Rattle.msp_decode.specs.declared.encode_fault.EncodeFault.{EncodeFault};
-ghost use Rattle.msp_decode.specs.declared.head.Head.TheVariants.{One as OneHead};
-ghost use Rattle.msp_decode.specs.Spelling.{is_legal, word_of};
-ghost use Rattle.msp_decode.specs.Completion.{source_form, dest_form, head_part, source_words, dest_words, extension_words, words_of};
-ghost use Rattle.msp_decode.specs.FollowingWords.{following_words};
-ghost use Rattle.msp_decode.specs.EncodeFault.{first_fault};
-ghost use Rattle.msp_decode.specs.Law.{AreReadAs};
+ghost use Rattle.msp_decode.specs.{declared.{encode_fault.EncodeFault.EncodeFault, head.Head.TheVariants.One as OneHead}, Spelling.{is_legal, word_of}, Completion.{source_form, dest_form, head_part, source_words, dest_words, extension_words, words_of}, FollowingWords.following_words, EncodeFault.first_fault, Law.AreReadAs};
 
 use crate::dest::Dest;
 use crate::dest_form::DestForm;

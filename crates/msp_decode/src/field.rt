@@ -1,7 +1,5 @@
 ghost use Rattle.std.specs.Prelude.{◌≡◌, ◌<◌, ◌≤◌, IsTrue};
-ghost use Rattle.msp_decode.specs.Table.{op2_number, size_number, offset_number};
-ghost use Rattle.msp_decode.specs.Field.{op2_of, size_of_bit, offset_of};
-ghost use Rattle.msp_decode.specs.Spelling.{has_range};
+ghost use Rattle.msp_decode.specs.{Table.{op2_number, size_number, offset_number}, Field.{op2_of, size_of_bit, offset_of}, Spelling.has_range};
 
 use crate::value_numbered::value_numbered;
 use word_arith::{Op2, Size};

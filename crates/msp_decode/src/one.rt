@@ -15,9 +15,7 @@ pub enum One {
 }
 
 impl One {
-    ghost use Rattle.msp_decode.specs.Table.{one_number};
-    ghost use Rattle.msp_decode.specs.Field.{one_of};
-    ghost use Rattle.msp_decode.specs.Spelling.{has_size, writes_operand};
+    ghost use Rattle.msp_decode.specs.{Table.one_number, Field.one_of, Spelling.{has_size, writes_operand}};
 
     // The opcode.
     pub(crate) fn number(self) -> u16

@@ -25,8 +25,7 @@ pub enum Reg {
 }
 
 impl Reg {
-    ghost use Rattle.msp_decode.specs.Table.{reg_number};
-    ghost use Rattle.msp_decode.specs.Field.{reg_of};
+    ghost use Rattle.msp_decode.specs.{Table.reg_number, Field.reg_of};
 
     /// The register's number, 0 to 15.
     pub fn number(self) -> u16

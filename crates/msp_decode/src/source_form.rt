@@ -45,9 +45,7 @@ pub enum SourceForm {
 }
 
 impl SourceForm {
-    ghost use Rattle.msp_decode.specs.Table.{source_fields};
-    ghost use Rattle.msp_decode.specs.Field.{source_of};
-    ghost use Rattle.msp_decode.specs.Spelling.{has_form, takes_result};
+    ghost use Rattle.msp_decode.specs.{Table.source_fields, Field.source_of, Spelling.{has_form, takes_result}};
 
     // The mode (As) and the register field with which the form is written.
     pub(crate) fn fields(self) -> (u16, u16)

@@ -2,21 +2,8 @@
 use Rattle.std.specs.Prelude.{◌≡◌, ◌++◌, ℕ, Bool, true, false, not, List, [], ◌∷◌}
 use Rattle.bus_signals.specs.declared.access.Access.{Access}
 use Rattle.msp_decode.specs.declared.head.Head.{Head}
-use Rattle.part_definitions.specs.declared.cpu_access.CpuAccess.{CpuAccess}
-use Rattle.part_definitions.specs.declared.cpu_access.CpuAccess.TheVariants.{WriteResult}
-use Rattle.part_definitions.specs.declared.working_state.WorkingState.{WorkingState}
-use Rattle.part_definitions.specs.BusAccess.{write_at}
-use Rattle.part_definitions.specs.Operand.{size_of}
-use Rattle.part_definitions.specs.Instruction.{bus_access}
-use Rattle.part_definitions.specs.NextAccess.{Next, Asks, Completes, walk, is_illegal, next_access, entry_access}
-use Rattle.part_definitions.specs.CpuState.{CpuState, Boundary, Executing, Entering, registers_of, is_at_boundary, is_entering}
-use Rattle.part_definitions.specs.CpuRegister.{Registers}
-use Rattle.msp_exec.specs.declared.phase.EntryAccess.{EntryAccess}
-use Rattle.msp_exec.specs.declared.phase.EntryAccess.TheVariants.{PushPc, PushSr, ReadVector}
-use Rattle.msp_exec.specs.declared.phase.Phase.{Phase}
-use Rattle.msp_exec.specs.declared.phase.Phase.TheVariants.{Boundary as AtBoundary, Executing as InInstruction, Entering as InEntry}
-use Rattle.msp_exec.specs.declared.cpu.Cpu.{Cpu}
-use Rattle.msp_exec.specs.Order.{accesses_after}
+use Rattle.part_definitions.specs.{declared.{cpu_access.CpuAccess.{CpuAccess, TheVariants.WriteResult}, working_state.WorkingState.WorkingState}, BusAccess.write_at, Operand.size_of, Instruction.bus_access, NextAccess.{Next, Asks, Completes, walk, is_illegal, next_access, entry_access}, CpuState.{CpuState, Boundary, Executing, Entering, registers_of, is_at_boundary, is_entering}, CpuRegister.Registers}
+use Rattle.msp_exec.specs.{declared.{phase.{EntryAccess.{EntryAccess, TheVariants.{PushPc, PushSr, ReadVector}}, Phase.{Phase, TheVariants.{Boundary as AtBoundary, Executing as InInstruction, Entering as InEntry}}}, cpu.Cpu.Cpu}, Order.accesses_after}
 
 -- between two instructions
 abbrev pub is_boundary : Phase → Bool

@@ -1,10 +1,8 @@
 -- How many handlers were entered and not left.
 use Rattle.std.specs.Prelude.{◌+◌, ◌-◌, ◌==◌, ◌^◌, ℕ, min, if◌then◌else◌}
-use Rattle.msp_decode.specs.Spelling.{word_of}
-use Rattle.msp_decode.specs.declared.head.Head.TheVariants.{Reti}
+use Rattle.msp_decode.specs.{Spelling.word_of, declared.head.Head.TheVariants.Reti}
 use Rattle.word_arith.specs.Word16.{Word16}
-use Rattle.msp_exec.specs.declared.phase.Phase.{Phase}
-use Rattle.msp_exec.specs.Course.{is_boundary}
+use Rattle.msp_exec.specs.{declared.phase.Phase.Phase, Course.is_boundary}
 
 -- behind the acceptance of an interrupt, as far as a number of 64 bits counts
 abbrev pub level_entered : ℕ → ℕ

@@ -1,12 +1,8 @@
 -- What is left of an instruction after one of its accesses.
 use Rattle.std.specs.Prelude.{List, [], ◌∷◌, Option, Some, None}
-use Rattle.word_arith.specs.declared.op2.Op2.{Op2}
-use Rattle.word_arith.specs.declared.op2.Op2.TheVariants.{Cmp, Bit}
-use Rattle.msp_decode.specs.declared.head.Head.{Head}
-use Rattle.msp_decode.specs.declared.head.Head.TheVariants.{Two, One, Reti, Jump}
-use Rattle.part_definitions.specs.declared.cpu_access.CpuAccess.{CpuAccess}
-use Rattle.part_definitions.specs.declared.cpu_access.CpuAccess.TheVariants.{FetchImmediate, FetchSourceIndex, ReadSource, ReadIncrementing, FetchDestinationIndex, ReadDestination, WriteResult, PushSource, PushPc, PopSr, PopPc}
-use Rattle.part_definitions.specs.CpuAccess.{result_accesses, destination_accesses, operand_accesses}
+use Rattle.word_arith.specs.{declared.op2.Op2.{Op2, TheVariants.{Cmp, Bit}}}
+use Rattle.msp_decode.specs.{declared.head.Head.{Head, TheVariants.{Two, One, Reti, Jump}}}
+use Rattle.part_definitions.specs.{declared.cpu_access.CpuAccess.{CpuAccess, TheVariants.{FetchImmediate, FetchSourceIndex, ReadSource, ReadIncrementing, FetchDestinationIndex, ReadDestination, WriteResult, PushSource, PushPc, PopSr, PopPc}}, CpuAccess.{result_accesses, destination_accesses, operand_accesses}}
 
 -- once the source is known
 abbrev pub after_source : Head → List CpuAccess

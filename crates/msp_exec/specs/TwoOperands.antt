@@ -1,14 +1,8 @@
 -- The end of an instruction of two operands: the form of its source does not matter any more.
 use Rattle.std.specs.Prelude.{ℕ}
-use Rattle.word_arith.specs.declared.size.Size.{Size}
-use Rattle.word_arith.specs.declared.flags.Flags.{Flags}
-use Rattle.word_arith.specs.declared.op2.Op2.{Op2}
-use Rattle.word_arith.specs.Op2.{alu_result}
+use Rattle.word_arith.specs.{declared.{size.Size.Size, flags.Flags.Flags, op2.Op2.Op2}, Op2.alu_result}
 use Rattle.msp_decode.specs.declared.dest_form.DestForm.{DestForm}
-use Rattle.part_definitions.specs.declared.working_state.WorkingState.{WorkingState}
-use Rattle.part_definitions.specs.CpuRegister.{Registers, flags_in}
-use Rattle.part_definitions.specs.Operand.{destination_in}
-use Rattle.part_definitions.specs.Instruction.{after_two}
+use Rattle.part_definitions.specs.{declared.working_state.WorkingState.WorkingState, CpuRegister.{Registers, flags_in}, Operand.destination_in, Instruction.after_two}
 
 -- result and flags once both operands are known
 abbrev pub result_of_two : Op2 → Size → DestForm → WorkingState → ℕ × Flags

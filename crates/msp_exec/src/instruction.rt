@@ -1,12 +1,7 @@
 ghost use Rattle.std.specs.Prelude.{◌≡◌, ℕ, true};
-ghost use Rattle.word_arith.specs.Op2.{alu_result};
-ghost use Rattle.word_arith.specs.declared.flags.Flags.{Flags};
-ghost use Rattle.word_arith.specs.declared.size.Size.{Size};
-ghost use Rattle.part_definitions.specs.CpuAccess.{accesses_of};
-ghost use Rattle.part_definitions.specs.Operand.{size_of, state_at_start};
-ghost use Rattle.part_definitions.specs.Instruction.{result_of, after_value, registers_after};
-ghost use Rattle.msp_exec.specs.Order.{after_source, after_index, after_read, accesses_after, accesses_from};
-ghost use Rattle.msp_exec.specs.TwoOperands.{result_of_two, registers_after_two};
+ghost use Rattle.word_arith.specs.{Op2.alu_result, declared.{flags.Flags.Flags, size.Size.Size}};
+ghost use Rattle.part_definitions.specs.{CpuAccess.accesses_of, Operand.{size_of, state_at_start}, Instruction.{result_of, after_value, registers_after}};
+ghost use Rattle.msp_exec.specs.{Order.{after_source, after_index, after_read, accesses_after, accesses_from}, TwoOperands.{result_of_two, registers_after_two}};
 
 use crate::operand::{add_increment, add_index, constant_word, destination_in};
 use crate::outcome::{jump, leave_number, leave_one, operand_outcome};

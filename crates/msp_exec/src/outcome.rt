@@ -1,7 +1,6 @@
 ghost use Rattle.std.specs.Prelude.{◌≡◌, ℕ, List};
 ghost use Rattle.word_arith.specs.declared.flags.Flags.{Flags};
-ghost use Rattle.part_definitions.specs.CpuRegister.{with_flags};
-ghost use Rattle.part_definitions.specs.Instruction.{operand_result, after_two, after_one, is_taken, jump_target, after_jump};
+ghost use Rattle.part_definitions.specs.{CpuRegister.with_flags, Instruction.{operand_result, after_two, after_one, is_taken, jump_target, after_jump}};
 
 use crate::register::{flags_in, pc_in, set_flags, set_pc, set_register};
 use msp_decode::{Cond, DestForm, One, SourceForm};

@@ -1,7 +1,5 @@
 ghost use Rattle.std.specs.Prelude.{◌≡◌};
-ghost use Rattle.part_definitions.specs.CpuRegister.{pc_of, sp_of, sr_of, word_in, operand_in, word_for, with_register, with_pc, with_sp, with_sr, after_word, after_push, after_pop, flags_in, status_with, with_flags};
-ghost use Rattle.part_definitions.specs.Instruction.{push_place};
-ghost use Rattle.part_definitions.specs.NextAccess.{handler_registers};
+ghost use Rattle.part_definitions.specs.{CpuRegister.{pc_of, sp_of, sr_of, word_in, operand_in, word_for, with_register, with_pc, with_sp, with_sr, after_word, after_push, after_pop, flags_in, status_with, with_flags}, Instruction.push_place, NextAccess.handler_registers};
 
 use bus_signals::even;
 use msp_decode::Reg;

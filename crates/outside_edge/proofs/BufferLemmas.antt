@@ -1,8 +1,7 @@
 -- What the sink behind a buffer took.
 use Rattle.std.proofs.Common.{◌-◌, ◌≡◌, ℕ, List, [], ◌∷◌, ◌++◌, length, take, drop, get_or, Result, Ok, Err, OnOk, refl, sym, ap, subst, ◌∙◌, append_assoc, arith, length-append}
 use Rattle.std.proofs.lemmas.List.{append-nil, append_cancel_left, take_at, take-append-drop}
-use Rattle.outside_edge.specs.Sink.{Takes, TakesPrefix, Puts}
-use Rattle.outside_edge.specs.Buffer.{Buffer, BufferStandsFor}
+use Rattle.outside_edge.specs.{Sink.{Takes, TakesPrefix, Puts}, Buffer.{Buffer, BufferStandsFor}}
 use Rattle.outside_edge.proofs.SinkLemmas.{prefix_of_prefix}
 
 -- The buffer's sink took the first of the bytes that waited.

@@ -1,6 +1,5 @@
 ghost use Rattle.std.specs.Prelude.{◌≡◌, [], ℕ, List, Ok, OnOk};
-ghost use Rattle.outside_edge.specs.Sink.{Takes, TakesPrefix, Puts, CountsFaults};
-ghost use Rattle.outside_edge.specs.Buffer.{Buffer, BufferStandsFor};
+ghost use Rattle.outside_edge.specs.{Sink.{Takes, TakesPrefix, Puts, CountsFaults}, Buffer.{Buffer, BufferStandsFor}};
 
 use crate::sink::{Failed, Sink, put_until_fault};
 use arrayvec::ArrayVec;

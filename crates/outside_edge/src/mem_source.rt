@@ -1,7 +1,5 @@
 ghost use Rattle.std.specs.Prelude.{◌≡◌, ◌≤◌, ◌+◌, ◌↔◌, Some, IsErr, Contains, length, min, IfOk, OnErr, sum};
-ghost use Rattle.outside_edge.specs.Calls.{with_call, with_fault};
-ghost use Rattle.outside_edge.specs.Sink.{CountsFaults};
-ghost use Rattle.outside_edge.specs.Source.{GivesBytes};
+ghost use Rattle.outside_edge.specs.{Calls.{with_call, with_fault}, Sink.CountsFaults, Source.GivesBytes};
 
 use crate::byte_queue::ByteQueue;
 use crate::failing_calls::FailingCalls;

@@ -1,6 +1,5 @@
 ghost use Rattle.std.specs.Prelude.{◌≡◌, ◌≤◌, ◌+◌, Option, Some, length, IfOk, IfSome, OnOk};
-ghost use Rattle.outside_edge.specs.File.{Copies};
-ghost use Rattle.outside_edge.specs.OpenFile.{PlacedFile};
+ghost use Rattle.outside_edge.specs.{File.Copies, OpenFile.PlacedFile};
 
 use std::io;
 

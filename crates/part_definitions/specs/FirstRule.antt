@@ -1,12 +1,8 @@
 -- The rule that a step breaks: the first in the order in which records name them.
 use Rattle.std.specs.Prelude.{◌&&◌, Bool, Option, Some, None, if◌then◌else◌}
 use Rattle.std.specs.Option.{option_or}
-use Rattle.bus_signals.specs.declared.rule.Rule.{Rule}
-use Rattle.bus_signals.specs.declared.rule.Rule.TheVariants.{X0, I1}
-use Rattle.bus_signals.specs.declared.signals.Signals.{Signals}
-use Rattle.bus_signals.specs.Address.{Address}
-use Rattle.part_definitions.specs.NextAccess.{is_illegal}
-use Rattle.part_definitions.specs.MonitorRule.{key_rule, atomicity_rule}
+use Rattle.bus_signals.specs.{declared.{rule.Rule.{Rule, TheVariants.{X0, I1}}, signals.Signals.Signals}, Address.Address}
+use Rattle.part_definitions.specs.{NextAccess.is_illegal, MonitorRule.{key_rule, atomicity_rule}}
 
 -- X0: the script asks for a reset
 abbrev pub breaks_x0 : Signals → Bool

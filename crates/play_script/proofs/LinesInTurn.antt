@@ -1,17 +1,8 @@
 -- The lines of a script from the front: each line's events, and then those of the lines behind it.
 use Rattle.std.proofs.Common.{◌≡◌, ◌∙◌, ap, ℕ, List, [], ◌∷◌, ◌++◌, Bool, true, false, cond, Result, Ok, Err, refl, sym, append_assoc, append-nil}
 use Rattle.std.specs.Prelude.{nat_lt, if◌then◌else◌}
-use Rattle.text_scan.specs.declared.fault_at.FaultAt.{FaultAt}
-use Rattle.text_scan.specs.declared.fault_kind.FaultKind.{FaultKind}
-use Rattle.text_scan.specs.declared.fault_kind.FaultKind.TheVariants.{Order}
-use Rattle.text_scan.specs.Line.{text_lines}
-use Rattle.text_scan.specs.LineFold.{lines_fold, text_fold}
-use Rattle.text_scan.specs.Reader.{◌>>=◌, in_line}
-use Rattle.text_scan.specs.Utf8.{utf8_of}
-use Rattle.text_scan.specs.Word.{is_passed_over, words_of}
-use Rattle.play_script.specs.Grammar.{ScriptSoFar, no_lines, script_line_of, timed_events, with_entry, with_line, script_of}
-use Rattle.play_script.specs.Meaning.{Entry, entry_in}
-use Rattle.play_script.specs.Script.{TimedEvent}
+use Rattle.text_scan.specs.{declared.{fault_at.FaultAt.FaultAt, fault_kind.FaultKind.{FaultKind, TheVariants.Order}}, Line.text_lines, LineFold.{lines_fold, text_fold}, Reader.{◌>>=◌, in_line}, Utf8.utf8_of, Word.{is_passed_over, words_of}}
+use Rattle.play_script.specs.{Grammar.{ScriptSoFar, no_lines, script_line_of, timed_events, with_entry, with_line, script_of}, Meaning.{Entry, entry_in}, Script.TimedEvent}
 
 -- a line whose step is less than the greatest one is out of order
 abbrev pub in_order : ℕ → Entry → Result Entry FaultKind

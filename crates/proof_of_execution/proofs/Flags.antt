@@ -2,35 +2,11 @@
 use Rattle.std.proofs.Common.{◌≡◌, ◌&&◌, ℕ, Bool, true, false, not, List, [], ◌∷◌, ◌⊎◌, inl, inr, length, map, Option, Some, None, ap, sym, ◌∙◌, arith}
 use Rattle.std.specs.Prelude.{◌==◌}
 use Rattle.std.proofs.lemmas.Bool.{and_from, and_parts, not-true, not_from_false, false_from_ne_true}
-use Rattle.bus_signals.specs.declared.access.Access.{Access}
-use Rattle.bus_signals.specs.declared.bounds.Bounds.{Bounds}
-use Rattle.bus_signals.specs.declared.bus_record.BusRecord.{BusRecord}
-use Rattle.bus_signals.specs.declared.rule.Rule.{Rule}
-use Rattle.bus_signals.specs.Access.{some_reads}
-use Rattle.bus_signals.specs.Bounds.{are_valid, executable_region}
-use Rattle.bus_signals.specs.Kind.{is_irq}
-use Rattle.bus_signals.specs.Map.{lies_in}
-use Rattle.bus_signals.specs.SeenRecord.{SeenRecord}
-use Rattle.bus_signals.specs.ExecFlag.{is_opcode_fetch, starts_run, runs_inside, last_pc, exec}
-use Rattle.part_definitions.specs.FirstRule.{first_rule}
-use Rattle.part_definitions.specs.TrustedFlag.{aux, clears_aux, enters_elsewhere, reads_vector, handler_read}
-use Rattle.device_trace.specs.Blank.{blank_seen}
-use Rattle.device_trace.specs.Logs.{Logs, vector_of, step_progress, progress_after}
-use Rattle.device_trace.specs.Progress.{last_registers}
-use Rattle.device_trace.specs.Signals.{value_read, step_kind, proposed_access, signals_at, signals_of}
-use Rattle.device_trace.specs.Start.{Start}
-use Rattle.device_trace.specs.Step.{dma_value_read, record_from, record_of}
-use Rattle.device_trace.specs.RegionRun.{Interrupts, NoInterrupts, TrustedInterrupts, runs_alone, runs_with}
-use Rattle.trace_facts.proofs.BlankRecords.{last_pc-blank}
-use Rattle.trace_facts.proofs.Choices.{other_false}
-use Rattle.trace_facts.proofs.ExecFlag.{exec-more, exec-none, aux-more, aux-none}
-use Rattle.trace_facts.proofs.Fresh.{LogsAreFresh}
-use Rattle.trace_facts.proofs.BlankRecords.{starts_run-blank}
-use Rattle.proof_of_execution.proofs.Entries.{region_entered, sleep_lasts}
-use Rattle.proof_of_execution.proofs.InterruptEntries.{IsEarly, irq-follows}
-use Rattle.proof_of_execution.proofs.Keeps.{KeepsBoth, Keeps, clears-kept, undisturbed-kept, code-kept, enters_at_start}
-use Rattle.proof_of_execution.proofs.KeepsAux.{KeepsAux, clears_aux-kept, trusted-kept, code_and_vectors-kept, enters_first}
-use Rattle.proof_of_execution.proofs.Runs.{Goes}
+use Rattle.bus_signals.specs.{declared.{access.Access.Access, bounds.Bounds.Bounds, bus_record.BusRecord.BusRecord, rule.Rule.Rule}, Access.some_reads, Bounds.{are_valid, executable_region}, Kind.is_irq, Map.lies_in, SeenRecord.SeenRecord, ExecFlag.{is_opcode_fetch, starts_run, runs_inside, last_pc, exec}}
+use Rattle.part_definitions.specs.{FirstRule.first_rule, TrustedFlag.{aux, clears_aux, enters_elsewhere, reads_vector, handler_read}}
+use Rattle.device_trace.specs.{Blank.blank_seen, Logs.{Logs, vector_of, step_progress, progress_after}, Progress.last_registers, Signals.{value_read, step_kind, proposed_access, signals_at, signals_of}, Start.Start, Step.{dma_value_read, record_from, record_of}, RegionRun.{Interrupts, NoInterrupts, TrustedInterrupts, runs_alone, runs_with}}
+use Rattle.trace_facts.proofs.{BlankRecords.{last_pc-blank, starts_run-blank}, Choices.other_false, ExecFlag.{exec-more, exec-none, aux-more, aux-none}, Fresh.LogsAreFresh}
+use Rattle.proof_of_execution.proofs.{Entries.{region_entered, sleep_lasts}, InterruptEntries.{IsEarly, irq-follows}, Keeps.{KeepsBoth, Keeps, clears-kept, undisturbed-kept, code-kept, enters_at_start}, KeepsAux.{KeepsAux, clears_aux-kept, trusted-kept, code_and_vectors-kept, enters_first}, Runs.Goes}
 
 -- EXEC, or with trusted interrupts the second flag, which sees the records blanked
 abbrev pub flag_of : Interrupts → List SeenRecord → Bool

@@ -2,29 +2,11 @@
 use Rattle.std.proofs.Common.{◌≡◌, ◌<◌, ◌≤◌, ◌*◌, ◌/◌, ℕ, true, List, [], ◌∷◌, length, Option, Some, None, refl, ap, ◌∙◌, arith}
 use Rattle.std.specs.Prelude.{◌==◌}
 use Rattle.std.proofs.lemmas.Bool.{cond_both}
-use Rattle.bus_signals.specs.declared.access.Access.{Access}
-use Rattle.bus_signals.specs.declared.bounds.Bounds.{Bounds}
-use Rattle.bus_signals.specs.declared.kind.Kind.{Kind}
-use Rattle.bus_signals.specs.declared.kind.Kind.TheVariants.{Boot, Cpu, Idle, Irq, Rom}
-use Rattle.bus_signals.specs.Access.{some_reads}
-use Rattle.bus_signals.specs.Bounds.{are_valid, executable_region}
-use Rattle.bus_signals.specs.Kind.{is_irq}
-use Rattle.bus_signals.specs.Access.{some_reads}
-use Rattle.bus_signals.specs.Map.{lies_in, ROM_ENTRY}
-use Rattle.part_definitions.specs.Attestation.{call_item, is_return, word_passed}
-use Rattle.part_definitions.specs.CpuRegister.{pc_of, is_asleep}
-use Rattle.part_definitions.specs.CpuState.{CpuState, Boundary, Executing, Entering, cpu_access, cpu_after, completion_or}
-use Rattle.part_definitions.specs.MonitorRule.{in_rom}
-use Rattle.part_definitions.specs.NextAccess.{Next, Asks, Completes, handler_registers, entry_access}
-use Rattle.device_trace.specs.Play.{Play}
-use Rattle.device_trace.specs.Logs.{vector_of}
-use Rattle.device_trace.specs.Progress.{access_of, kind_of, Progress, Held, Runs, InCall, next_pc_of, boundary_kind, progress_from_boundary, progress_within, after_return, call_after, next_progress}
-use Rattle.device_trace.specs.Signals.{step_kind}
-use Rattle.device_trace.specs.Start.{Start}
-use Rattle.device_trace.specs.Trace.{logs_after}
-use Rattle.proof_of_execution.proofs.Regions.{inside-open}
+use Rattle.bus_signals.specs.{declared.{access.Access.Access, bounds.Bounds.Bounds, kind.Kind.{Kind, TheVariants.{Boot, Cpu, Idle, Irq, Rom}}}, Access.some_reads, Bounds.{are_valid, executable_region}, Kind.is_irq, Map.{lies_in, ROM_ENTRY}}
+use Rattle.part_definitions.specs.{Attestation.{call_item, is_return, word_passed}, CpuRegister.{pc_of, is_asleep}, CpuState.{CpuState, Boundary, Executing, Entering, cpu_access, cpu_after, completion_or}, MonitorRule.in_rom, NextAccess.{Next, Asks, Completes, handler_registers, entry_access}}
+use Rattle.device_trace.specs.{Play.Play, Logs.vector_of, Progress.{access_of, kind_of, Progress, Held, Runs, InCall, next_pc_of, boundary_kind, progress_from_boundary, progress_within, after_return, call_after, next_progress}, Signals.step_kind, Start.Start, Trace.logs_after}
+use Rattle.proof_of_execution.proofs.{Regions.inside-open, Entries.boundary-pc}
 use Rattle.trace_facts.proofs.EachPlay.{logs_after-kept, cpu_state_after-kept}
-use Rattle.proof_of_execution.proofs.Entries.{boundary-pc}
 
 -- an entry that has not read its vector yet
 abbrev IsEarlyState : CpuState → Type 0

@@ -3,33 +3,12 @@ use Rattle.std.proofs.Common.{◌≡◌, ℕ, Bool, true, false, List, [], ◌�
 use Rattle.std.specs.Prelude.{◌==◌, ◌&&◌, is_some, IsTrue, if◌then◌else◌, is_none}
 use Rattle.std.specs.List.{list_any}
 use Rattle.std.proofs.lemmas.Bool.{and_parts, or_parts, eqb-true, false_from_ne_true}
-use Rattle.bus_signals.specs.declared.bounds.Bounds.{Bounds}
-use Rattle.bus_signals.specs.declared.bus_record.BusRecord.{BusRecord}
-use Rattle.bus_signals.specs.declared.event.Event.{Event}
-use Rattle.bus_signals.specs.Bounds.{are_valid, executable_region}
-use Rattle.bus_signals.specs.Kind.{is_rom}
-use Rattle.bus_signals.specs.Map.{lies_in, metadata_region, ROM_EXIT}
-use Rattle.bus_signals.specs.Report.{ReportFields}
-use Rattle.bus_signals.specs.SeenRecord.{SeenRecord}
-use Rattle.bus_signals.specs.ExecFlag.{accesses_in, writes_to, ran_inside, last_pc, fetches_first}
+use Rattle.bus_signals.specs.{declared.{bounds.Bounds.Bounds, bus_record.BusRecord.BusRecord, event.Event.Event}, Bounds.{are_valid, executable_region}, Kind.is_rom, Map.{lies_in, metadata_region, ROM_EXIT}, Report.ReportFields, SeenRecord.SeenRecord, ExecFlag.{accesses_in, writes_to, ran_inside, last_pc, fetches_first}}
 use Rattle.part_definitions.specs.MonitorRule.{in_rom}
-use Rattle.device_trace.specs.Play.{Play}
-use Rattle.device_trace.specs.Logs.{Logs, exec_of, logged_bounds, step_progress, finishes_call, call_decision, progress_after, with_events, with_record}
-use Rattle.device_trace.specs.Progress.{Progress}
-use Rattle.device_trace.specs.Start.{Start}
-use Rattle.device_trace.specs.Step.{record_of, asks_reset, next_record}
-use Rattle.device_trace.specs.Text.{report_of, denial_where, last_report, last_decision, last_denial}
-use Rattle.device_trace.specs.Trace.{logs_after, trace}
-use Rattle.device_trace.specs.RegionRun.{WholeRun, Interrupts, NoInterrupts, RegionRun}
-use Rattle.trace_facts.proofs.Choices.{none_there}
-use Rattle.trace_facts.proofs.BoundsStay.{logged_bounds-stay}
-use Rattle.trace_facts.proofs.Fresh.{LogsAreFresh, logs_after-fresh}
+use Rattle.device_trace.specs.{Play.Play, Logs.{Logs, exec_of, logged_bounds, step_progress, finishes_call, call_decision, progress_after, with_events, with_record}, Progress.Progress, Start.Start, Step.{record_of, asks_reset, next_record}, Text.{report_of, denial_where, last_report, last_decision, last_denial}, Trace.{logs_after, trace}, RegionRun.{WholeRun, Interrupts, NoInterrupts, RegionRun}}
+use Rattle.trace_facts.proofs.{Choices.none_there, BoundsStay.logged_bounds-stay, Fresh.{LogsAreFresh, logs_after-fresh}, LastReport.last_report-made}
 use Rattle.proof_of_execution.specs.WholeCall.{ExecAfterCallMeansWholeRun}
-use Rattle.proof_of_execution.proofs.Regions.{inside-open}
-use Rattle.proof_of_execution.proofs.Runs.{RunState, run_begins, state_after, run_outside}
-use Rattle.proof_of_execution.proofs.InterruptEntries.{IsEarly, logs_after-early}
-use Rattle.proof_of_execution.proofs.Flags.{KeepsFlag, flag_of, flag-none, flag-more, keeps-both, record_goes}
-use Rattle.trace_facts.proofs.LastReport.{last_report-made}
+use Rattle.proof_of_execution.proofs.{Regions.inside-open, Runs.{RunState, run_begins, state_after, run_outside}, InterruptEntries.{IsEarly, logs_after-early}, Flags.{KeepsFlag, flag_of, flag-none, flag-more, keeps-both, record_goes}}
 
 -- of the logs of a play
 abbrev pub LogsState : Interrupts → Start → Logs → List BusRecord → Type 0

@@ -3,9 +3,7 @@ use Rattle.std.proofs.Common.{◌≡◌, ℕ, ◌+◌, ◌*◌, ◌/◌, ◌%◌
 use Rattle.std.specs.Prelude.{◌==◌, nat_le}
 use Rattle.std.proofs.lemmas.Bool.{and_parts, and_from, leb-true, le-leb, eq-eqb}
 use Rattle.std.proofs.lemmas.Bool.Decides.{nat_tests}
-use Rattle.bus_signals.specs.declared.bounds.Bounds.{Bounds}
-use Rattle.bus_signals.specs.Bounds.{are_valid, executable_region}
-use Rattle.bus_signals.specs.Map.{lies_in, metadata_region}
+use Rattle.bus_signals.specs.{declared.bounds.Bounds.Bounds, Bounds.{are_valid, executable_region}, Map.{lies_in, metadata_region}}
 use Rattle.bus_signals.proofs.ValidRange.{are_valid-ranges}
 use Rattle.part_definitions.specs.MonitorRule.{in_rom}
 

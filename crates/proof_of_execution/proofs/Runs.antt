@@ -4,19 +4,9 @@ use Rattle.std.proofs.Common.{◌≡◌, ℕ, true, false, not, List, [], ◌∷
 use Rattle.std.specs.Prelude.{◌==◌}
 use Rattle.std.specs.List.{list_all}
 use Rattle.std.proofs.lemmas.Bool.{cases_Bool, and_from, and_parts, not_from_false, eqb-true}
-use Rattle.bus_signals.specs.declared.bus_record.BusRecord.{BusRecord}
-use Rattle.bus_signals.specs.declared.bounds.Bounds.{Bounds}
-use Rattle.bus_signals.specs.Bounds.{are_valid, executable_region}
-use Rattle.bus_signals.specs.Kind.{is_irq}
-use Rattle.bus_signals.specs.Map.{lies_in}
-use Rattle.bus_signals.specs.SeenRecord.{SeenRecord}
-use Rattle.bus_signals.specs.ExecFlag.{is_opcode_fetch, fetches_first, ran_inside, ran_at, runs_inside}
-use Rattle.device_trace.specs.Progress.{Progress}
-use Rattle.device_trace.specs.RegionRun.{Interrupts, NoInterrupts, TrustedInterrupts, is_inside, runs_with, keeps_code_with, keeps_output, begins_run, ends_run, has_left, RegionRun}
-use Rattle.proof_of_execution.proofs.Entries.{Sleeps}
-use Rattle.proof_of_execution.proofs.InterruptEntries.{StaysInside}
-use Rattle.proof_of_execution.proofs.Keeps.{KeepsBoth, output-kept, leaves_at_end}
-use Rattle.proof_of_execution.proofs.Regions.{min-inside}
+use Rattle.bus_signals.specs.{declared.{bus_record.BusRecord.BusRecord, bounds.Bounds.Bounds}, Bounds.{are_valid, executable_region}, Kind.is_irq, Map.lies_in, SeenRecord.SeenRecord, ExecFlag.{is_opcode_fetch, fetches_first, ran_inside, ran_at, runs_inside}}
+use Rattle.device_trace.specs.{Progress.Progress, RegionRun.{Interrupts, NoInterrupts, TrustedInterrupts, is_inside, runs_with, keeps_code_with, keeps_output, begins_run, ends_run, has_left, RegionRun}}
+use Rattle.proof_of_execution.proofs.{Entries.Sleeps, InterruptEntries.StaysInside, Keeps.{KeepsBoth, output-kept, leaves_at_end}, Regions.min-inside}
 
 -- asleep at the region's first place, which is told of a run with no interrupts alone
 abbrev pub Rests : Interrupts → Bounds → Progress → Type 0

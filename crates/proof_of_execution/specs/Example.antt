@@ -1,9 +1,7 @@
 -- Closed plays at which the law is computed.
 use Rattle.std.specs.Prelude.{Bool, [], ◌∷◌, Option, Some, None}
-use Rattle.bus_signals.specs.declared.event.Event.TheVariants.{Rx}
-use Rattle.bus_signals.specs.Report.{ReportFields}
-use Rattle.device_trace.specs.Example.{quiet_steps}
-use Rattle.device_trace.specs.Play.{Play}
+use Rattle.bus_signals.specs.{declared.event.Event.TheVariants.Rx, Report.ReportFields}
+use Rattle.device_trace.specs.{Example.quiet_steps, Play.Play}
 
 -- the region is called and then attested, with no event
 abbrev pub quiet_play : Play

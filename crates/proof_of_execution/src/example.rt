@@ -1,6 +1,5 @@
 ghost use Rattle.std.specs.Prelude.{◌≡◌, Some, false, true};
-ghost use Rattle.device_trace.specs.Example.{guarded_region, start_with};
-ghost use Rattle.device_trace.specs.Text.{last_report};
+ghost use Rattle.device_trace.specs.{Example.{guarded_region, start_with}, Text.last_report};
 ghost use Rattle.proof_of_execution.specs.Example.{play_with_byte, quiet_play, reported_exec};
 
 /// A region that runs undisturbed is reported with EXEC 1.

@@ -1,12 +1,6 @@
 ghost use Rattle.std.specs.Prelude.{◌≡◌, ℕ, IsTrue, Some};
 ghost use Rattle.bus_signals.specs.Report.{ReportFields};
-ghost use Rattle.device_trace.specs.Logs.{exec_of, logged_bounds};
-ghost use Rattle.device_trace.specs.Report.{EachReport, ExecMeansWholeRun};
-ghost use Rattle.device_trace.specs.Start.{Start};
-ghost use Rattle.device_trace.specs.Text.{last_denial, last_report};
-ghost use Rattle.device_trace.specs.Trace.{logs_after, trace};
-ghost use Rattle.device_trace.specs.RegionRun.{WholeRun};
-ghost use Rattle.device_trace.specs.Play.{Play};
+ghost use Rattle.device_trace.specs.{Logs.{exec_of, logged_bounds}, Report.{EachReport, ExecMeansWholeRun}, Start.Start, Text.{last_denial, last_report}, Trace.{logs_after, trace}, RegionRun.WholeRun, Play.Play};
 ghost use Rattle.proof_of_execution.specs.WholeCall.{ExecAfterCallMeansWholeRun};
 
 /// Where the last step of a play finishes a call, whatever it decides, and EXEC is 1, the bounds

@@ -1,18 +1,8 @@
 -- The lines of a report file: what each says, and its first fault.
 use Rattle.std.specs.Prelude.{false, ℕ, ◌==◌, Bool, List, [], ◌∷◌, if◌then◌else◌, Option, Some, None, Result, Ok, Err, codes}
 use Rattle.std.specs.Str.{bytes_eq}
-use Rattle.bus_signals.specs.declared.bounds.Bounds.{Bounds}
-use Rattle.bus_signals.specs.declared.version.Version.{Version}
-use Rattle.bus_signals.specs.declared.version.Version.TheVariants.{One, Two}
-use Rattle.bus_signals.specs.Report.{ReportFields}
-use Rattle.bus_signals.specs.Rule.{rule_names}
-use Rattle.text_scan.specs.declared.fault_kind.FaultKind.{FaultKind}
-use Rattle.text_scan.specs.declared.fault_kind.FaultKind.TheVariants.{Word}
-use Rattle.text_scan.specs.Ends.{ends_of}
-use Rattle.text_scan.specs.Hexadecimal.{even_bytes_of}
-use Rattle.text_scan.specs.Reader.{◌>>=◌}
-use Rattle.text_scan.specs.Word.{next_word, keyword_of, end_of}
-use Rattle.text_scan.specs.WordValue.{number_of, place_of, hex_block_of, value_of}
+use Rattle.bus_signals.specs.{declared.{bounds.Bounds.Bounds, version.Version.{Version, TheVariants.{One, Two}}}, Report.ReportFields, Rule.rule_names}
+use Rattle.text_scan.specs.{declared.fault_kind.FaultKind.{FaultKind, TheVariants.Word}, Ends.ends_of, Hexadecimal.even_bytes_of, Reader.◌>>=◌, Word.{next_word, keyword_of, end_of}, WordValue.{number_of, place_of, hex_block_of, value_of}}
 use Rattle.report_verifier.specs.VerdictName.{verdict_names}
 use Rattle.report_text.specs.declared.field.Field.{Field}
 use Rattle.report_text.specs.declared.field.Field.TheVariants as fields

@@ -2,8 +2,7 @@
 use Rattle.std.specs.Prelude.{ℕ, List, [], ◌∷◌, codes}
 use Rattle.std.specs.Fmt.{decimal}
 use Rattle.printed_lines.specs.Line.{line_of}
-use Rattle.report_verifier.specs.declared.verdict.Verdict.{Verdict}
-use Rattle.report_verifier.specs.VerdictName.{verdict_name}
+use Rattle.report_verifier.specs.{declared.verdict.Verdict.Verdict, VerdictName.verdict_name}
 
 -- the report of this number, from 1, was decided
 abbrev pub verdict_line : ℕ → Verdict → List ℕ

@@ -1,5 +1,4 @@
-ghost use Rattle.text_scan.specs.Reader.{ReadsWord};
-ghost use Rattle.text_scan.specs.Word.{words_of};
+ghost use Rattle.text_scan.specs.{Reader.ReadsWord, Word.words_of};
 ghost use Rattle.report_text.specs.ReportFile.{report2_of};
 
 use crate::report::Report;

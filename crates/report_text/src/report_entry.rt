@@ -1,6 +1,5 @@
 ghost use Rattle.std.specs.Prelude.{◌≤◌, IfOk};
-ghost use Rattle.text_scan.specs.Reader.{ReadsOn, ReadsWord, ReadsWordOn};
-ghost use Rattle.text_scan.specs.Word.{words_of};
+ghost use Rattle.text_scan.specs.{Reader.{ReadsOn, ReadsWord, ReadsWordOn}, Word.words_of};
 ghost use Rattle.report_text.specs.ReportLine.{count_of, flag_of, request_of, digest_of, bounds_of, output_in, output_of, report_of, some_report_of, no_report_of, report_by_keyword, report_line_of};
 
 use crate::passed_line::pass_line;

@@ -5,29 +5,12 @@ use Rattle.std.specs.Str.{bytes_eq}
 use Rattle.std.proofs.Math.Seq.{take-append_seam, drop-append_seam}
 use Rattle.std.proofs.lemmas.Bool.{and_parts, cases_Bool, cond-true, eqb-true, false≢true}
 use Rattle.std.proofs.lemmas.Slice.Eq.{bytes_eq-Decides}
-use Rattle.bus_signals.specs.declared.bounds.Bounds.{Bounds}
-use Rattle.bus_signals.specs.declared.version.Version.{Version}
-use Rattle.bus_signals.specs.declared.version.Version.TheVariants.{One, Two}
-use Rattle.bus_signals.specs.Bounds.{are_valid}
-use Rattle.bus_signals.specs.Report.{ReportFields}
-use Rattle.part_definitions.specs.Hmac.{hmac}
-use Rattle.part_definitions.specs.Metadata.{bounds_in}
-use Rattle.part_definitions.specs.Region.{metadata_bytes, bounded_bytes, rest_bytes, bytes_between, challenge_bytes, output_bytes}
+use Rattle.bus_signals.specs.{declared.{bounds.Bounds.Bounds, version.Version.{Version, TheVariants.{One, Two}}}, Bounds.are_valid, Report.ReportFields}
+use Rattle.part_definitions.specs.{Hmac.hmac, Metadata.bounds_in, Region.{metadata_bytes, bounded_bytes, rest_bytes, bytes_between, challenge_bytes, output_bytes}}
 use Rattle.part_definitions.proofs.BytesFrom.{length-bytes_from}
-use Rattle.report_verifier.specs.declared.verdict.Verdict.TheVariants.{Accept, VersionDiffers, ChalDiffers, CountDiffers, BoundsDiffer, ExecZero, AuxZero, MacDiffers}
-use Rattle.report_verifier.specs.declared.expect.Expect.{Expect}
-use Rattle.report_verifier.specs.declared.flag_kind.FlagKind.{FlagKind}
-use Rattle.report_verifier.specs.declared.flag_kind.FlagKind.TheVariants.{Exec, Aux, Plain}
-use Rattle.report_verifier.specs.Acceptance.{HasFlag, IsAccepted, StandsAsExpected}
-use Rattle.report_verifier.specs.Collision.{AreBytes, Collides, GivesBytes, colliding_pair}
-use Rattle.report_verifier.specs.Comparison.{expected_key, expected_bytes, own_bytes}
+use Rattle.report_verifier.specs.{declared.{verdict.Verdict.TheVariants.{Accept, VersionDiffers, ChalDiffers, CountDiffers, BoundsDiffer, ExecZero, AuxZero, MacDiffers}, expect.Expect.Expect, flag_kind.FlagKind.{FlagKind, TheVariants.{Exec, Aux, Plain}}}, Acceptance.{HasFlag, IsAccepted, StandsAsExpected}, Collision.{AreBytes, Collides, GivesBytes, colliding_pair}, Comparison.{expected_key, expected_bytes, own_bytes}, Expectation.{expected_mac, expected_metadata, expected_rest, image_code, report_output}, PolicyGrammar.bounds_with, Verdict.{same_version, same_bounds, lacks_exec, lacks_aux, verdict}}
 use Rattle.mem_map.specs.Image.{image_byte}
-use Rattle.report_verifier.specs.Expectation.{expected_mac, expected_metadata, expected_rest, image_code, report_output}
-use Rattle.report_verifier.specs.PolicyGrammar.{bounds_with}
-use Rattle.report_verifier.specs.Verdict.{same_version, same_bounds, lacks_exec, lacks_aux, verdict}
-use Rattle.report_verifier.proofs.ComparedBytes.{expected-bytes, from-bytes, memory-words, own-bytes}
-use Rattle.report_verifier.proofs.ExpectedMetadata.{take-chal}
-use Rattle.report_verifier.proofs.Pairs.{one_mac-collides}
+use Rattle.report_verifier.proofs.{ComparedBytes.{expected-bytes, from-bytes, memory-words, own-bytes}, ExpectedMetadata.take-chal, Pairs.one_mac-collides}
 
 -- what an accept says of the tests
 pub record TestsHold (version chal count bounds no_exec no_aux mac : Bool) : Type 0 where

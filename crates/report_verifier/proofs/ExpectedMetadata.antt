@@ -3,8 +3,7 @@ use Rattle.std.proofs.Common.{◌≡◌, ◌+◌, ◌∙◌, ◌∷◌, [], ℕ,
 use Rattle.word_arith.specs.Number.{bit_of}
 use Rattle.bus_signals.specs.Report.{ReportFields}
 use Rattle.part_definitions.specs.Attestation.{bytes_of_words}
-use Rattle.report_verifier.specs.declared.expect.Expect.{Expect}
-use Rattle.report_verifier.specs.Expectation.{first_metadata, expected_metadata}
+use Rattle.report_verifier.specs.{declared.expect.Expect.Expect, Expectation.{first_metadata, expected_metadata}}
 use Rattle.report_verifier.proofs.Pieces.{take-first}
 
 pub take-chal : (digest : List ℕ → List ℕ) (key : List ℕ) (expect : Expect)

@@ -2,25 +2,10 @@
 use Rattle.std.proofs.Common.{◌≡◌, ℕ, List, [], ◌∷◌, Bool, true, false, Result, Ok, Err, IfOk, refl, length}
 use Rattle.std.specs.Prelude.{if◌then◌else◌}
 use Rattle.std.specs.Str.Lines.{lines}
-use Rattle.bus_signals.specs.declared.bounds.Bounds.{Bounds}
-use Rattle.bus_signals.specs.declared.version.Version.{Version}
-use Rattle.bus_signals.specs.declared.version.Version.TheVariants.{One, Two}
-use Rattle.text_scan.specs.declared.fault_at.FaultAt.{FaultAt}
-use Rattle.text_scan.specs.declared.fault_kind.FaultKind.{FaultKind}
+use Rattle.bus_signals.specs.{declared.{bounds.Bounds.Bounds, version.Version.{Version, TheVariants.{One, Two}}}}
+use Rattle.text_scan.specs.{declared.{fault_at.FaultAt.FaultAt, fault_kind.FaultKind.FaultKind}, Line.text_lines, LineFold.{lines_fold, text_fold}, Reader.{◌>>=◌, in_line}, Utf8.utf8_of, Word.{is_passed_over, words_of}}
 use Rattle.text_scan.specs.declared.fault_kind.FaultKind.TheVariants as kinds
-use Rattle.text_scan.specs.Line.{text_lines}
-use Rattle.text_scan.specs.LineFold.{lines_fold, text_fold}
-use Rattle.text_scan.specs.Reader.{◌>>=◌, in_line}
-use Rattle.text_scan.specs.Utf8.{utf8_of}
-use Rattle.text_scan.specs.Word.{is_passed_over, words_of}
-use Rattle.report_verifier.specs.declared.asked.Asked.{Asked}
-use Rattle.report_verifier.specs.declared.draft.Draft.{Draft}
-use Rattle.report_verifier.specs.declared.draft.Draft.TheVariants.{Empty, VersionKnown, ExecutableKnown, BoundsKnown, Whole}
-use Rattle.report_verifier.specs.declared.policy_line.PolicyLine.{PolicyLine}
-use Rattle.report_verifier.specs.declared.policy_line.PolicyLine.TheVariants.{VersionTwo, Executable, Output, Flag, Request, Challenge}
-use Rattle.report_verifier.specs.Policy.{PolicyFields}
-use Rattle.report_verifier.specs.PolicyGrammar.{policy_of, policy_line_of, bounds_with, draft_with, has_request, with_request, with_challenge, draft_after, draft_with_line, whole_policy}
-use Rattle.report_verifier.specs.Validity.{are_valid_for}
+use Rattle.report_verifier.specs.{declared.{asked.Asked.Asked, draft.Draft.{Draft, TheVariants.{Empty, VersionKnown, ExecutableKnown, BoundsKnown, Whole}}, policy_line.PolicyLine.{PolicyLine, TheVariants.{VersionTwo, Executable, Output, Flag, Request, Challenge}}}, Policy.PolicyFields, PolicyGrammar.{policy_of, policy_line_of, bounds_with, draft_with, has_request, with_request, with_challenge, draft_after, draft_with_line, whole_policy}, Validity.are_valid_for}
 
 -- the bounds that a draft has are valid in its version
 abbrev IsValidPolicy : PolicyFields → Type 0

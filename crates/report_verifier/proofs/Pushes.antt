@@ -1,10 +1,8 @@
 -- Pieces that are put behind one another in an array, where they fit.
 use Rattle.std.proofs.Common.{◌≡◌, ◌≤◌, ◌+◌, ◌-◌, ◌++◌, ◌∙◌, ◌∷◌, [], ℕ, List, length, refl, ap, arith, length-append, append_assoc}
-use Rattle.part_definitions.specs.Memory.{bytes_from}
-use Rattle.part_definitions.specs.Region.{bytes_between}
-use Rattle.report_verifier.proofs.CodeBytes.{append-byte}
+use Rattle.part_definitions.specs.{Memory.bytes_from, Region.bytes_between}
+use Rattle.report_verifier.proofs.{CodeBytes.append-byte, Pieces.append-six}
 use Rattle.part_definitions.proofs.BytesFrom.{length-bytes_from, bytes_between-span}
-use Rattle.report_verifier.proofs.Pieces.{append-six}
 
 -- one more piece behind the first ones, whose number of bytes is known
 pushes :

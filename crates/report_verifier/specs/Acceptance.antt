@@ -1,18 +1,8 @@
 -- What an accept means for a device whose memory has these bytes.
 use Rattle.std.specs.Prelude.{◌≡◌, ℕ, List, Option, Some, IsTrue}
-use Rattle.bus_signals.specs.declared.version.Version.TheVariants.{Two}
-use Rattle.bus_signals.specs.Bounds.{are_valid}
-use Rattle.bus_signals.specs.Report.{ReportFields}
-use Rattle.part_definitions.specs.Attestation.{attestation_tag}
-use Rattle.part_definitions.specs.Metadata.{bounds_in}
-use Rattle.part_definitions.specs.Region.{metadata_bytes, challenge_bytes, rest_bytes, bytes_between, output_bytes}
-use Rattle.report_verifier.specs.declared.verdict.Verdict.TheVariants.{Accept}
-use Rattle.report_verifier.specs.declared.expect.Expect.{Expect}
-use Rattle.report_verifier.specs.declared.flag_kind.FlagKind.{FlagKind}
-use Rattle.report_verifier.specs.declared.flag_kind.FlagKind.TheVariants.{Exec, Aux, Plain}
-use Rattle.report_verifier.specs.Expectation.{expected_metadata, image_code}
-use Rattle.report_verifier.specs.Validity.{are_valid_for}
-use Rattle.report_verifier.specs.Verdict.{verdict}
+use Rattle.bus_signals.specs.{declared.version.Version.TheVariants.Two, Bounds.are_valid, Report.ReportFields}
+use Rattle.part_definitions.specs.{Attestation.attestation_tag, Metadata.bounds_in, Region.{metadata_bytes, challenge_bytes, rest_bytes, bytes_between, output_bytes}}
+use Rattle.report_verifier.specs.{declared.{verdict.Verdict.TheVariants.Accept, expect.Expect.Expect, flag_kind.FlagKind.{FlagKind, TheVariants.{Exec, Aux, Plain}}}, Expectation.{expected_metadata, image_code}, Validity.are_valid_for, Verdict.verdict}
 
 -- a report of a device: it tells what stands in memory, and its MAC is the tag of that under the
 -- device key

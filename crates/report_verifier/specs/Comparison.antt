@@ -1,12 +1,9 @@
 -- What an accepted report rests on: the bytes that it is expected to be of, and those of the
 -- device, which is of version 2.
 use Rattle.std.specs.Prelude.{◌++◌, ◌+◌, ◌-◌, ◌≤◌, ℕ, List, Option, length}
-use Rattle.bus_signals.specs.declared.bounds.Bounds.{Bounds}
-use Rattle.bus_signals.specs.Report.{ReportFields}
-use Rattle.part_definitions.specs.Hmac.{hmac}
-use Rattle.part_definitions.specs.Region.{metadata_bytes, rest_bytes}
-use Rattle.report_verifier.specs.declared.expect.Expect.{Expect}
-use Rattle.report_verifier.specs.Expectation.{expected_metadata, expected_rest, report_output}
+use Rattle.bus_signals.specs.{declared.bounds.Bounds.Bounds, Report.ReportFields}
+use Rattle.part_definitions.specs.{Hmac.hmac, Region.{metadata_bytes, rest_bytes}}
+use Rattle.report_verifier.specs.{declared.expect.Expect.Expect, Expectation.{expected_metadata, expected_rest, report_output}}
 
 -- the key of the challenge that is expected
 abbrev pub expected_key : (List ℕ → List ℕ) → List ℕ → Expect → List ℕ

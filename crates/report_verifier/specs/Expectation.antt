@@ -2,13 +2,8 @@
 use Rattle.std.specs.Prelude.{◌++◌, ℕ, Bool, List, [], ◌∷◌, Option, Some, None}
 use Rattle.std.specs.Int.{w32, to_le_bytes}
 use Rattle.word_arith.specs.Number.{bit_of}
-use Rattle.bus_signals.specs.declared.bounds.Bounds.{Bounds}
-use Rattle.bus_signals.specs.declared.version.Version.{Version}
-use Rattle.bus_signals.specs.declared.version.Version.TheVariants.{One, Two}
-use Rattle.bus_signals.specs.Report.{ReportFields}
-use Rattle.part_definitions.specs.Attestation.{bytes_of_words, attestation_tag}
-use Rattle.part_definitions.specs.Region.{bytes_between}
-use Rattle.part_definitions.specs.Request.{request_token}
+use Rattle.bus_signals.specs.{declared.{bounds.Bounds.Bounds, version.Version.{Version, TheVariants.{One, Two}}}, Report.ReportFields}
+use Rattle.part_definitions.specs.{Attestation.{bytes_of_words, attestation_tag}, Region.bytes_between, Request.request_token}
 use Rattle.mem_map.specs.Image.{image_byte}
 use Rattle.report_verifier.specs.declared.expect.Expect.{Expect}
 

@@ -2,11 +2,8 @@
 -- sent.
 use Rattle.std.specs.Prelude.{ℕ, List, Option, Some, None}
 use Rattle.std.specs.List.{slice_get}
-use Rattle.bus_signals.specs.declared.bounds.Bounds.{Bounds}
-use Rattle.bus_signals.specs.declared.version.Version.{Version}
-use Rattle.report_verifier.specs.declared.flag_kind.FlagKind.{FlagKind}
-use Rattle.report_verifier.specs.declared.asked.Asked.{Asked}
-use Rattle.report_verifier.specs.declared.expect.Expect.{Expect}
+use Rattle.bus_signals.specs.{declared.{bounds.Bounds.Bounds, version.Version.Version}}
+use Rattle.report_verifier.specs.{declared.{flag_kind.FlagKind.FlagKind, asked.Asked.Asked, expect.Expect.Expect}}
 
 pub record PolicyFields : Type 0 where
   pub version : Version

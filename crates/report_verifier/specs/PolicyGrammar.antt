@@ -4,27 +4,10 @@ use Rattle.std.specs.Prelude.{ℕ, ◌==◌, ◌&&◌, Bool, List, [], ◌∷◌
 use Rattle.std.specs.List.{list_any}
 use Rattle.std.specs.Str.{bytes_eq}
 use Rattle.std.specs.Str.Lines.{lines}
-use Rattle.bus_signals.specs.declared.bounds.Bounds.{Bounds}
-use Rattle.bus_signals.specs.declared.version.Version.{Version}
-use Rattle.bus_signals.specs.declared.version.Version.TheVariants.{One, Two}
-use Rattle.text_scan.specs.declared.fault_at.FaultAt.{FaultAt}
-use Rattle.text_scan.specs.declared.fault_kind.FaultKind.{FaultKind}
-use Rattle.text_scan.specs.declared.fault_kind.FaultKind.TheVariants.{Word, Missing, Order, Twice}
+use Rattle.bus_signals.specs.{declared.{bounds.Bounds.Bounds, version.Version.{Version, TheVariants.{One, Two}}}}
+use Rattle.text_scan.specs.{declared.{fault_at.FaultAt.FaultAt, fault_kind.FaultKind.{FaultKind, TheVariants.{Word, Missing, Order, Twice}}}, Ends.ends_of, LineFold.text_fold, Reader.◌>>=◌, Word.{words_of, next_word, end_of}, WordValue.{hex_block_of, number_of}}
 use Rattle.text_scan.specs.declared.fault_kind.FaultKind.TheVariants as kinds
-use Rattle.text_scan.specs.Ends.{ends_of}
-use Rattle.text_scan.specs.LineFold.{text_fold}
-use Rattle.text_scan.specs.Reader.{◌>>=◌}
-use Rattle.text_scan.specs.Word.{words_of, next_word, end_of}
-use Rattle.text_scan.specs.WordValue.{hex_block_of, number_of}
-use Rattle.report_verifier.specs.declared.flag_kind.FlagKind.{FlagKind}
-use Rattle.report_verifier.specs.declared.flag_kind.FlagKind.TheVariants.{Exec, Aux, Plain}
-use Rattle.report_verifier.specs.declared.asked.Asked.{Asked}
-use Rattle.report_verifier.specs.declared.policy_line.PolicyLine.{PolicyLine}
-use Rattle.report_verifier.specs.declared.policy_line.PolicyLine.TheVariants.{VersionTwo, Executable, Output, Flag, Request, Challenge}
-use Rattle.report_verifier.specs.declared.draft.Draft.{Draft}
-use Rattle.report_verifier.specs.declared.draft.Draft.TheVariants.{Empty, VersionKnown, ExecutableKnown, BoundsKnown, Whole}
-use Rattle.report_verifier.specs.Policy.{PolicyFields}
-use Rattle.report_verifier.specs.Validity.{are_valid_for}
+use Rattle.report_verifier.specs.{declared.{flag_kind.FlagKind.{FlagKind, TheVariants.{Exec, Aux, Plain}}, asked.Asked.Asked, policy_line.PolicyLine.{PolicyLine, TheVariants.{VersionTwo, Executable, Output, Flag, Request, Challenge}}, draft.Draft.{Draft, TheVariants.{Empty, VersionKnown, ExecutableKnown, BoundsKnown, Whole}}}, Policy.PolicyFields, Validity.are_valid_for}
 
 -- `version 2`
 unfoldable pub version_line_of : List (List ℕ) → Result (PolicyLine × List (List ℕ)) FaultKind

@@ -1,16 +1,8 @@
 -- The verdict on a report: the first that holds.
 use Rattle.std.specs.Prelude.{◌==◌, ◌&&◌, ℕ, Bool, true, false, List, Option, Some, None, not, if◌then◌else◌}
 use Rattle.std.specs.Str.{bytes_eq}
-use Rattle.bus_signals.specs.declared.bounds.Bounds.{Bounds}
-use Rattle.bus_signals.specs.declared.version.Version.{Version}
-use Rattle.bus_signals.specs.declared.version.Version.TheVariants.{One, Two}
-use Rattle.bus_signals.specs.Report.{ReportFields}
-use Rattle.report_verifier.specs.declared.verdict.Verdict.{Verdict}
-use Rattle.report_verifier.specs.declared.verdict.Verdict.TheVariants.{Accept, NoChallenge, VersionDiffers, ChalDiffers, CountDiffers, BoundsDiffer, ExecZero, AuxZero, MacDiffers}
-use Rattle.report_verifier.specs.declared.expect.Expect.{Expect}
-use Rattle.report_verifier.specs.declared.flag_kind.FlagKind.{FlagKind}
-use Rattle.report_verifier.specs.declared.flag_kind.FlagKind.TheVariants.{Exec, Aux}
-use Rattle.report_verifier.specs.Expectation.{expected_mac}
+use Rattle.bus_signals.specs.{declared.{bounds.Bounds.Bounds, version.Version.{Version, TheVariants.{One, Two}}}, Report.ReportFields}
+use Rattle.report_verifier.specs.{declared.{verdict.Verdict.{Verdict, TheVariants.{Accept, NoChallenge, VersionDiffers, ChalDiffers, CountDiffers, BoundsDiffer, ExecZero, AuxZero, MacDiffers}}, expect.Expect.Expect, flag_kind.FlagKind.{FlagKind, TheVariants.{Exec, Aux}}}, Expectation.expected_mac}
 
 abbrev pub same_version : Version → Version → Bool
 same_version One One = true

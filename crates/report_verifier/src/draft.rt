@@ -1,9 +1,7 @@
 ghost use Rattle.std.specs.Prelude.{◌≡◌, IsTrue};
-ghost use Rattle.text_scan.specs.LineFold.{TakesLine, Takes};
-ghost use Rattle.text_scan.specs.Word.{words_of};
+ghost use Rattle.text_scan.specs.{LineFold.{TakesLine, Takes}, Word.words_of};
 ghost use Rattle.report_verifier.specs.declared.policy_line.PolicyLine.TheVariants as lines;
-ghost use Rattle.report_verifier.specs.PolicyGrammar.{policy_line_of, version_after, draft_with, draft_after, draft_with_line};
-ghost use Rattle.report_verifier.specs.Validity.{are_valid_for};
+ghost use Rattle.report_verifier.specs.{PolicyGrammar.{policy_line_of, version_after, draft_with, draft_after, draft_with_line}, Validity.are_valid_for};
 
 use crate::asked::Asked;
 use crate::flag_kind::FlagKind;

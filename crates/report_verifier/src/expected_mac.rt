@@ -2,10 +2,8 @@ ghost use Rattle.std.specs.Prelude.{◌≡◌, ◌≤◌, ◌+◌, ◌-◌, ◌+
 ghost use Rattle.bus_signals.specs.Report.{fields_of};
 ghost use Rattle.hmac_core.specs.Hmac.{HmacStandsFor};
 ghost use Rattle.mem_map.specs.Image.{byte_in, image_byte};
-ghost use Rattle.part_definitions.specs.Hmac.{hmac};
-ghost use Rattle.part_definitions.specs.Memory.{bytes_from};
-ghost use Rattle.report_verifier.specs.Expectation.{image_code, report_output, expected_mac};
-ghost use Rattle.report_verifier.specs.Validity.{are_valid_for};
+ghost use Rattle.part_definitions.specs.{Hmac.hmac, Memory.bytes_from};
+ghost use Rattle.report_verifier.specs.{Expectation.{image_code, report_output, expected_mac}, Validity.are_valid_for};
 
 use crate::byte_list::ByteList;
 use crate::expect::Expect;

@@ -2,15 +2,9 @@ ghost use Rattle.std.specs.Prelude.{◌≡◌, ◌<◌, ◌⊎◌, ℕ, List, []
 ghost use Rattle.std.specs.declared.alloc.AllocError.{AllocError};
 ghost use Rattle.bus_signals.specs.Report.{ReportFields};
 ghost use Rattle.part_definitions.specs.Hmac.{hmac};
-ghost use Rattle.report_verifier.specs.declared.evidence.Exhibit.TheVariants.{MacsDiffer};
-ghost use Rattle.report_verifier.specs.declared.expect.Expect.{Expect};
-ghost use Rattle.report_verifier.specs.Acceptance.{IsAccepted, StandsAsExpected};
-ghost use Rattle.report_verifier.specs.Collision.{AreBytes, Collides, Exhibits, GivesBytes, HaveOneMac, colliding_pair};
-ghost use Rattle.report_verifier.specs.Comparison.{expected_bytes, expected_key, own_bytes};
+ghost use Rattle.report_verifier.specs.{declared.{evidence.Exhibit.TheVariants.MacsDiffer, expect.Expect.Expect}, Acceptance.{IsAccepted, StandsAsExpected}, Collision.{AreBytes, Collides, Exhibits, GivesBytes, HaveOneMac, colliding_pair}, Comparison.{expected_bytes, expected_key, own_bytes}, PolicyGrammar.policy_of, Validity.are_valid_for};
 ghost use Rattle.mem_map.specs.Image.{image_byte};
 ghost use Rattle.sha2.specs.Sha256.{sha256};
-ghost use Rattle.report_verifier.specs.PolicyGrammar.{policy_of};
-ghost use Rattle.report_verifier.specs.Validity.{are_valid_for};
 
 /// The bounds of a policy that is read are valid.
 pub fn policies_have_valid_bounds()

@@ -1,8 +1,7 @@
 ghost use Rattle.std.specs.Prelude.{◌≡◌, ◌++◌, [], length};
 ghost use Rattle.word_arith.specs.Number.{bit_of};
 ghost use Rattle.bus_signals.specs.Report.{fields_of};
-ghost use Rattle.report_verifier.specs.Expectation.{first_metadata, request_metadata, expected_metadata};
-ghost use Rattle.report_verifier.specs.Validity.{metadata_len};
+ghost use Rattle.report_verifier.specs.{Expectation.{first_metadata, request_metadata, expected_metadata}, Validity.metadata_len};
 
 use crate::byte_list::ByteList;
 use crate::expect::Expect;

@@ -1,7 +1,5 @@
 ghost use Rattle.std.specs.Prelude.{◌≡◌, ◌++◌, ◌∷◌, [], OnOk, IfSome, IsTrue};
-ghost use Rattle.report_verifier.specs.Policy.{expect_at};
-ghost use Rattle.report_verifier.specs.PolicyGrammar.{has_request};
-ghost use Rattle.report_verifier.specs.Validity.{are_valid_for};
+ghost use Rattle.report_verifier.specs.{Policy.expect_at, PolicyGrammar.has_request, Validity.are_valid_for};
 
 use crate::asked::Asked;
 use crate::expect::Expect;
@@ -22,8 +20,7 @@ pub struct Policy {
 /// Seen as its version, bounds and flag, and its requests in the order of the file.
 impl Model for Policy {
     ghost use Rattle.std.specs.Prelude.{IsTrue};
-    ghost use Rattle.report_verifier.specs.Policy.{PolicyFields};
-    ghost use Rattle.report_verifier.specs.Validity.{are_valid_for};
+    ghost use Rattle.report_verifier.specs.{Policy.PolicyFields, Validity.are_valid_for};
 
     ghost Value = { PolicyFields };
 

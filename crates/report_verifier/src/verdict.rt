@@ -4,9 +4,7 @@ ghost use Rattle.std.proofs.Common.{rules};
 ghost use Rattle.sha2.specs.Sha256.{sha256};
 ghost use Rattle.bus_signals.specs.Report.{fields_of};
 ghost use Rattle.mem_map.specs.Image.{byte_in};
-ghost use Rattle.report_verifier.specs.Validity.{are_valid_for};
-ghost use Rattle.report_verifier.specs.VerdictName.{verdict_names};
-ghost use Rattle.report_verifier.specs.Verdict.{lacks_exec, lacks_aux, verdict_on, verdict};
+ghost use Rattle.report_verifier.specs.{Validity.are_valid_for, VerdictName.verdict_names, Verdict.{lacks_exec, lacks_aux, verdict_on, verdict}};
 
 use crate::expect::Expect;
 use crate::expected_mac::expected_mac;

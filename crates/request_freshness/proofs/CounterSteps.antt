@@ -3,13 +3,9 @@ use Rattle.std.proofs.Common.{◌≡◌, ℕ, ◌+◌, ◌*◌, ◌<◌, ◌≤�
 use Rattle.std.specs.Prelude.{slice_index}
 use Rattle.bus_signals.specs.declared.event.Event.{Event}
 use Rattle.part_definitions.specs.Metadata.{little_endian}
-use Rattle.device_trace.specs.Play.{Play}
-use Rattle.device_trace.specs.Trace.{trace}
+use Rattle.device_trace.specs.{Play.Play, Trace.trace}
 use Rattle.mac_coverage.specs.Coverage.{call_length}
-use Rattle.mac_coverage.proofs.Device.{Device, start_of}
-use Rattle.mac_coverage.proofs.KeptStored.{four}
-use Rattle.mac_coverage.proofs.PlaySteps.{LastWroteHighWord}
-use Rattle.mac_coverage.proofs.WordPlan.{IsCounter}
+use Rattle.mac_coverage.proofs.{Device.{Device, start_of}, KeptStored.four, PlaySteps.LastWroteHighWord, WordPlan.IsCounter}
 use Rattle.request_freshness.specs.Freshness.{kept_counter}
 use Rattle.request_freshness.proofs.Moments.{left_by, each_step}
 

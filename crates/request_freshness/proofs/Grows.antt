@@ -3,29 +3,13 @@ use Rattle.std.proofs.Common.{◌≡◌, ℕ, ◌<◌, ◌≤◌, Bool, true, fa
 use Rattle.std.specs.Prelude.{◌==◌, ◌&&◌, is_none, IsFalse}
 use Rattle.std.proofs.lemmas.Bool.{cases_lt, cond-true, eq-eqb}
 use Rattle.std.proofs.lemmas.List.{drop-append-le}
-use Rattle.bus_signals.specs.declared.access.Access.{Access}
-use Rattle.bus_signals.specs.declared.access.Access.TheVariants.{Fetch, Read, Write}
-use Rattle.bus_signals.specs.declared.bus_record.BusRecord.{BusRecord}
-use Rattle.bus_signals.specs.declared.rule.Rule.{Rule}
-use Rattle.bus_signals.specs.SeenRecord.{SeenHistory}
-use Rattle.part_definitions.specs.Metadata.{counter_in, little_endian}
-use Rattle.part_definitions.specs.Request.{ATTESTS}
-use Rattle.bus_signals.specs.Address.{Bytes, Contents}
-use Rattle.part_definitions.specs.Hmac.{Digest}
-use Rattle.device_trace.specs.Play.{Play}
-use Rattle.device_trace.specs.Start.{Start, with_key}
-use Rattle.device_trace.specs.Trace.{trace}
-use Rattle.mac_coverage.specs.AttestedBytes.{AttestedBytes, decision_of}
-use Rattle.mac_coverage.specs.Call.{last_call, mac_written}
-use Rattle.mac_coverage.specs.Coverage.{IsDeviceKey, IsOfBytes, before_call, call_length}
-use Rattle.mac_coverage.proofs.Device.{Device, start_of}
-use Rattle.mac_coverage.proofs.KeptStored.{kept-late}
-use Rattle.mac_coverage.proofs.Plays.{outcome_at}
-use Rattle.mac_coverage.proofs.PlaySteps.{LastWroteHighWord, WritesHighWord}
-use Rattle.mac_coverage.proofs.Words.{are_bytes}
+use Rattle.bus_signals.specs.{declared.{access.Access.{Access, TheVariants.{Fetch, Read, Write}}, bus_record.BusRecord.BusRecord, rule.Rule.Rule}, SeenRecord.SeenHistory, Address.{Bytes, Contents}}
+use Rattle.part_definitions.specs.{Metadata.{counter_in, little_endian}, Request.ATTESTS, Hmac.Digest}
+use Rattle.device_trace.specs.{Play.Play, Start.{Start, with_key}, Trace.trace}
+use Rattle.mac_coverage.specs.{AttestedBytes.{AttestedBytes, decision_of}, Call.{last_call, mac_written}, Coverage.{IsDeviceKey, IsOfBytes, before_call, call_length}}
+use Rattle.mac_coverage.proofs.{Device.{Device, start_of}, KeptStored.kept-late, Plays.outcome_at, PlaySteps.{LastWroteHighWord, WritesHighWord}, Words.are_bytes}
 use Rattle.request_freshness.specs.Freshness.{Attests, first_word, ends_between_words, kept_counter, writes_high_word}
-use Rattle.request_freshness.proofs.Moments.{CallMoments, attests-newer, left_by, call-moments}
-use Rattle.request_freshness.proofs.CounterSteps.{counter_step}
+use Rattle.request_freshness.proofs.{Moments.{CallMoments, attests-newer, left_by, call-moments}, CounterSteps.counter_step}
 
 -- the moment between the two writes
 writes_high : (access : Option Access) → WritesHighWord access → writes_high_word access ≡ true

@@ -3,33 +3,13 @@ use Rattle.std.proofs.Common.{◌≡◌, ℕ, suc, ◌+◌, ◌-◌, ◌<◌, �
 use Rattle.std.specs.Str.{bytes_eq}
 use Rattle.std.specs.Prelude.{◌==◌, is_some, nat_le, IsTrue, if◌then◌else◌}
 use Rattle.std.proofs.lemmas.Bool.{and_from, cases_Bool, cases_lt, cond-false, cond-true, eqb-true, leb-false}
-use Rattle.bus_signals.specs.declared.bus_record.BusRecord.{BusRecord}
-use Rattle.bus_signals.specs.declared.event.Event.{Event}
-use Rattle.bus_signals.specs.declared.kind.Kind.TheVariants.{Rom}
-use Rattle.bus_signals.specs.Kind.{is_rom}
-use Rattle.bus_signals.specs.Map.{ROM_ENTRY}
-use Rattle.part_definitions.specs.Metadata.{counter_in, little_endian, token_in}
-use Rattle.part_definitions.specs.Request.{ATTESTS, request_decision, right_token}
-use Rattle.bus_signals.specs.Address.{Bytes}
-use Rattle.part_definitions.specs.Hmac.{Digest}
+use Rattle.bus_signals.specs.{declared.{bus_record.BusRecord.BusRecord, event.Event.Event, kind.Kind.TheVariants.Rom}, Kind.is_rom, Map.ROM_ENTRY, Address.Bytes}
+use Rattle.part_definitions.specs.{Metadata.{counter_in, little_endian, token_in}, Request.{ATTESTS, request_decision, right_token}, Hmac.Digest}
 use Rattle.part_definitions.proofs.CallItems.{first_pc}
-use Rattle.device_trace.specs.Play.{Play}
-use Rattle.device_trace.specs.Logs.{Logs, step_progress, vector_of, with_events}
-use Rattle.device_trace.specs.Progress.{InCall}
-use Rattle.device_trace.specs.Signals.{step_kind}
-use Rattle.device_trace.specs.Step.{asks_reset, next_record}
-use Rattle.device_trace.specs.Trace.{logs_after, trace}
+use Rattle.device_trace.specs.{Play.Play, Logs.{Logs, step_progress, vector_of, with_events}, Progress.InCall, Signals.step_kind, Step.{asks_reset, next_record}, Trace.{logs_after, trace}}
 use Rattle.trace_facts.proofs.SoundPlay.{logs_after-sound}
-use Rattle.mac_coverage.specs.AttestedBytes.{AttestedBytes, counter_left, decision_of}
-use Rattle.mac_coverage.specs.Call.{begins_call, ends_in_call, ends_refused, last_call}
-use Rattle.mac_coverage.specs.Coverage.{MacCoversCall, attested_after, before_call, call_length, kept_after, kept_within}
-use Rattle.mac_coverage.proofs.Calls.{attested-is, entry_at, log_at}
-use Rattle.mac_coverage.proofs.Device.{Device, start_of}
-use Rattle.mac_coverage.proofs.KeptStored.{kept-early, kept-late}
-use Rattle.mac_coverage.proofs.Plays.{outcome_at, play_stands, rom_kind, call_begun}
-use Rattle.mac_coverage.proofs.PlaySteps.{CallGoesOn, LastWroteHighWord, entry-kind, entry-pc, kept-is, plan_of}
-use Rattle.mac_coverage.proofs.Steps.{IsOfCall, OnCall, rom_step-of_call}
-use Rattle.mac_coverage.proofs.WordPlan.{IsCounter, planned_counter-is}
+use Rattle.mac_coverage.specs.{AttestedBytes.{AttestedBytes, counter_left, decision_of}, Call.{begins_call, ends_in_call, ends_refused, last_call}, Coverage.{MacCoversCall, attested_after, before_call, call_length, kept_after, kept_within}}
+use Rattle.mac_coverage.proofs.{Calls.{attested-is, entry_at, log_at}, Device.{Device, start_of}, KeptStored.{kept-early, kept-late}, Plays.{outcome_at, play_stands, rom_kind, call_begun}, PlaySteps.{CallGoesOn, LastWroteHighWord, entry-kind, entry-pc, kept-is, plan_of}, Steps.{IsOfCall, OnCall, rom_step-of_call}, WordPlan.{IsCounter, planned_counter-is}}
 use Rattle.request_freshness.proofs.Untouched.{other_step-leaves, refused_step-leaves}
 
 -- a request that is attested has a greater counter than the kept one

@@ -5,23 +5,13 @@ use Rattle.std.specs.Str.{bytes_eq}
 use Rattle.std.proofs.lemmas.Bool.{cases_Bool, cond-false, cond-true, eqb-true, not-false}
 use Rattle.std.proofs.lemmas.List.{take-append-drop}
 use Rattle.std.proofs.lemmas.Slice.Eq.{bytes_eq-Decides}
-use Rattle.bus_signals.specs.declared.event.Event.{Event}
-use Rattle.bus_signals.specs.SeenRecord.{SeenHistory}
-use Rattle.part_definitions.specs.Metadata.{counter_in, kept_bytes, little_endian, token_in}
-use Rattle.part_definitions.specs.Request.{ATTESTS, right_token, request_decision}
-use Rattle.bus_signals.specs.Address.{Bytes, Contents}
-use Rattle.part_definitions.specs.Hmac.{Digest}
-use Rattle.device_trace.specs.Play.{Play}
-use Rattle.device_trace.specs.Start.{with_key}
-use Rattle.device_trace.specs.Trace.{byte_after}
-use Rattle.mac_coverage.specs.AttestedBytes.{AttestedBytes, counter_left, decision_of}
-use Rattle.mac_coverage.specs.Coverage.{IsDeviceKey, IsOfBytes}
-use Rattle.mac_coverage.proofs.Device.{Device, start_of}
-use Rattle.mac_coverage.proofs.KeptStored.{four}
-use Rattle.mac_coverage.proofs.WordPlan.{IsCounter}
+use Rattle.bus_signals.specs.{declared.event.Event.Event, SeenRecord.SeenHistory, Address.{Bytes, Contents}}
+use Rattle.part_definitions.specs.{Metadata.{counter_in, kept_bytes, little_endian, token_in}, Request.{ATTESTS, right_token, request_decision}, Hmac.Digest}
+use Rattle.device_trace.specs.{Play.Play, Start.with_key, Trace.byte_after}
+use Rattle.mac_coverage.specs.{AttestedBytes.{AttestedBytes, counter_left, decision_of}, Coverage.{IsDeviceKey, IsOfBytes}}
+use Rattle.mac_coverage.proofs.{Device.{Device, start_of}, KeptStored.four, WordPlan.IsCounter}
 use Rattle.request_freshness.specs.Freshness.{IsRightlyRequested, kept_counter}
-use Rattle.request_freshness.proofs.Moments.{CallMoments, choice, left_by, each_step}
-use Rattle.request_freshness.proofs.Grows.{device_of}
+use Rattle.request_freshness.proofs.{Moments.{CallMoments, choice, left_by, each_step}, Grows.device_of}
 
 -- a request that is attested has the right token
 first_choice : (other old : Bool) → choice other old ≡ ATTESTS → other ≡ false

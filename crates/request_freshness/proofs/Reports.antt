@@ -2,37 +2,14 @@
 use Rattle.std.proofs.Common.{◌≡◌, ℕ, suc, ◌≤◌, Bool, true, false, List, [], ◌∷◌, ◌++◌, append-nil, inl, inr, Option, Some, length, ap, sym, ◌∙◌, arith, subst}
 use Rattle.std.specs.Prelude.{◌==◌, ◌&&◌, is_none, is_some, if◌then◌else◌}
 use Rattle.std.proofs.lemmas.Bool.{and_parts, cond-true}
-use Rattle.bus_signals.specs.declared.bus_record.BusRecord.{BusRecord}
-use Rattle.bus_signals.specs.declared.event.Event.{Event}
-use Rattle.bus_signals.specs.declared.kind.Kind.TheVariants.{Rom}
-use Rattle.bus_signals.specs.declared.rule.Rule.{Rule}
-use Rattle.bus_signals.specs.Kind.{is_rom}
-use Rattle.bus_signals.specs.Map.{ROM_EXIT}
-use Rattle.bus_signals.specs.Report.{ReportFields}
-use Rattle.bus_signals.specs.SeenRecord.{SeenHistory}
-use Rattle.part_definitions.specs.Attestation.{call_item, is_return, word_passed}
-use Rattle.bus_signals.specs.Address.{Bytes, Contents}
-use Rattle.part_definitions.specs.Hmac.{Digest}
-use Rattle.device_trace.specs.Play.{Play}
-use Rattle.device_trace.specs.Logs.{Logs, finishes_call, step_progress, vector_of, with_events}
-use Rattle.device_trace.specs.Progress.{InCall, after_return, call_after}
-use Rattle.device_trace.specs.Signals.{step_kind}
-use Rattle.device_trace.specs.Start.{with_key}
-use Rattle.device_trace.specs.Text.{last_report}
-use Rattle.device_trace.specs.Trace.{logs_after, trace}
+use Rattle.bus_signals.specs.{declared.{bus_record.BusRecord.BusRecord, event.Event.Event, kind.Kind.TheVariants.Rom, rule.Rule.Rule}, Kind.is_rom, Map.ROM_EXIT, Report.ReportFields, SeenRecord.SeenHistory, Address.{Bytes, Contents}}
+use Rattle.part_definitions.specs.{Attestation.{call_item, is_return, word_passed}, Hmac.Digest}
+use Rattle.device_trace.specs.{Play.Play, Logs.{Logs, finishes_call, step_progress, vector_of, with_events}, Progress.{InCall, after_return, call_after}, Signals.step_kind, Start.with_key, Text.last_report, Trace.{logs_after, trace}, Step.{asks_reset, next_record}}
 use Rattle.trace_facts.proofs.Choices.{none_there}
-use Rattle.mac_coverage.specs.Call.{ends_finished, ends_in_call, last_call, mac_written}
-use Rattle.mac_coverage.specs.Coverage.{IsDeviceKey, IsOfBytes, call_length}
-use Rattle.mac_coverage.proofs.CallItems.{exit_returns}
-use Rattle.mac_coverage.proofs.Device.{Device, start_of}
-use Rattle.mac_coverage.proofs.Plays.{Reports, last_report-finishes, outcome_at, rom_kind, record_of-on_call}
-use Rattle.mac_coverage.proofs.Calls.{entry_at, log_at}
-use Rattle.mac_coverage.proofs.PlaySteps.{IsTurnOfCall, entry-kind, entry-pc, entry-step}
-use Rattle.mac_coverage.proofs.Steps.{IsOfCall, OnCall, progress-call_step, rom_step-of_call}
+use Rattle.mac_coverage.specs.{Call.{ends_finished, ends_in_call, last_call, mac_written}, Coverage.{IsDeviceKey, IsOfBytes, call_length}}
+use Rattle.mac_coverage.proofs.{CallItems.exit_returns, Device.{Device, start_of}, Plays.{Reports, last_report-finishes, outcome_at, rom_kind, record_of-on_call}, Calls.{entry_at, log_at}, PlaySteps.{IsTurnOfCall, entry-kind, entry-pc, entry-step}, Steps.{IsOfCall, OnCall, progress-call_step, rom_step-of_call}}
 use Rattle.request_freshness.specs.Freshness.{Attests, TellsNewCounter, first_word}
-use Rattle.request_freshness.proofs.Moments.{later_or_first}
-use Rattle.request_freshness.proofs.Grows.{counters-grow, device_of}
-use Rattle.device_trace.specs.Step.{asks_reset, next_record}
+use Rattle.request_freshness.proofs.{Moments.later_or_first, Grows.{counters-grow, device_of}}
 
 -- the progress after a step of a call that is not refused
 record CallProgress (device : Device) (play : Play) (events : List Event)

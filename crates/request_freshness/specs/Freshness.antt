@@ -1,22 +1,10 @@
 -- The counter that the device keeps, and the requests that it attests, over a whole play.
 use Rattle.std.specs.Prelude.{◌≡◌, ◌<◌, ◌≤◌, ◌==◌, ◌&&◌, ◌+◌, ◌/◌, ◌++◌, ℕ, Bool, false, List, [], ◌∷◌, length, Option, Some, None, IsTrue, IsFalse, is_none}
 use Rattle.word_arith.specs.Word16.{Word16}
-use Rattle.bus_signals.specs.declared.access.Access.{Access}
-use Rattle.bus_signals.specs.declared.access.Access.TheVariants.{Write}
-use Rattle.bus_signals.specs.declared.bus_record.BusRecord.{BusRecord}
-use Rattle.bus_signals.specs.Map.{KEPT_COUNTER}
-use Rattle.part_definitions.specs.Metadata.{counter_bytes, little_endian, token_in}
-use Rattle.part_definitions.specs.Region.{metadata_bytes}
-use Rattle.part_definitions.specs.Request.{ATTESTS, right_token}
-use Rattle.part_definitions.specs.Hmac.{Digest}
-use Rattle.bus_signals.specs.Report.{ReportFields}
-use Rattle.bus_signals.specs.Address.{Bytes}
-use Rattle.device_trace.specs.Start.{Start}
-use Rattle.device_trace.specs.Text.{last_report}
-use Rattle.device_trace.specs.Trace.{trace, byte_after}
-use Rattle.device_trace.specs.Play.{Play}
-use Rattle.mac_coverage.specs.Call.{ends_in_call, ends_refused, last_call, mac_written}
-use Rattle.mac_coverage.specs.Coverage.{call_length, kept_after}
+use Rattle.bus_signals.specs.{declared.{access.Access.{Access, TheVariants.Write}, bus_record.BusRecord.BusRecord}, Map.KEPT_COUNTER, Report.ReportFields, Address.Bytes}
+use Rattle.part_definitions.specs.{Metadata.{counter_bytes, little_endian, token_in}, Region.metadata_bytes, Request.{ATTESTS, right_token}, Hmac.Digest}
+use Rattle.device_trace.specs.{Start.Start, Text.last_report, Trace.{trace, byte_after}, Play.Play}
+use Rattle.mac_coverage.specs.{Call.{ends_in_call, ends_refused, last_call, mac_written}, Coverage.{call_length, kept_after}}
 
 -- the counter that is kept after a play, and the one of the request in the metadata
 abbrev pub kept_counter : Start → Play → ℕ

@@ -1,14 +1,9 @@
 ghost use Rattle.std.specs.Prelude.{◌≡◌, ◌++◌, ◌<◌, ◌≤◌, ◌∷◌, ℕ, Bool, IsFalse, List};
-ghost use Rattle.bus_signals.specs.SeenRecord.{SeenHistory};
-ghost use Rattle.bus_signals.specs.declared.event.Event.{Event};
-ghost use Rattle.device_trace.specs.Report.{EachReport};
-ghost use Rattle.device_trace.specs.Start.{with_key};
-ghost use Rattle.device_trace.specs.Trace.{trace};
+ghost use Rattle.bus_signals.specs.{SeenRecord.SeenHistory, declared.event.Event.Event, Address.{Contents, Bytes}};
+ghost use Rattle.device_trace.specs.{Report.EachReport, Start.with_key, Trace.trace, Play.Play};
 ghost use Rattle.mac_coverage.specs.Coverage.{IsDeviceKey, IsOfBytes};
 ghost use Rattle.request_freshness.specs.Freshness.{Attests, BeganAfter, IsRightlyRequested, TellsNewCounter, WasUnderWay, ends_between_words, kept_counter};
-ghost use Rattle.bus_signals.specs.Address.{Contents, Bytes};
 ghost use Rattle.part_definitions.specs.Hmac.{Digest};
-ghost use Rattle.device_trace.specs.Play.{Play};
 
 /// The kept counter never falls: after more steps it is not less than it was. The one moment that
 /// this does not speak of, as the earlier one, is that between the two writes of a call that

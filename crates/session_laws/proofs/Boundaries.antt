@@ -2,9 +2,7 @@
 use Rattle.std.proofs.Common.{◌≡◌, ◌<◌, ◌≤◌, ◌+◌, ◌-◌, ◌⊎◌, ℕ, zero, suc, Bool, true, false, List, [], length, inl, inr, refl, ap, sym, ◌∙◌, arith, eq-or-lt_of_le}
 use Rattle.std.specs.Prelude.{if◌then◌else◌}
 use Rattle.std.proofs.lemmas.Bool.{true≢false}
-use Rattle.debug_session.specs.Request.{most_steps}
-use Rattle.debug_session.specs.Cause.{ahead}
-use Rattle.debug_session.specs.Sight.{Sight, View}
+use Rattle.debug_session.specs.{Request.most_steps, Cause.ahead, Sight.{Sight, View}}
 use Rattle.session_laws.specs.Gone.{next_boundary}
 
 module _ (view : View) where

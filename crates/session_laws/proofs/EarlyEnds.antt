@@ -4,27 +4,10 @@ use Rattle.std.specs.Prelude.{◌==◌, ◌&&◌, ◌||◌}
 use Rattle.std.proofs.lemmas.Bool.{and_parts, cases_Bool, cond-false, cond-true, eqb-true, or_cases}
 use Rattle.std.proofs.lemmas.List.{append-nil}
 use Rattle.debug_link.specs.Conversation.{Answer}
-use Rattle.debug_session.specs.Command.{command_of}
-use Rattle.debug_session.specs.Request.{most_steps}
-use Rattle.debug_session.specs.declared.command.Command.{Command}
-use Rattle.debug_session.specs.declared.command.Command.TheVariants.{Go}
-use Rattle.debug_session.specs.declared.command.Going.{Going}
-use Rattle.debug_session.specs.declared.command.Way.{Way}
-use Rattle.debug_session.specs.declared.command.Way.TheVariants.{Ahead, Back}
-use Rattle.debug_session.specs.declared.stop.Stop.{Stop}
-use Rattle.debug_session.specs.declared.stop.Stop.TheVariants.{Begin, End, Interrupted}
-use Rattle.debug_session.specs.Cause.{cause}
+use Rattle.debug_session.specs.{Command.command_of, Request.most_steps, declared.{command.{Command.{Command, TheVariants.Go}, Going.Going, Way.{Way, TheVariants.{Ahead, Back}}}, stop.Stop.{Stop, TheVariants.{Begin, End, Interrupted}}}, Cause.cause, Going.{Standing, lies_between, seek_of, where_to}, Place.{Run, view_of}, Session.{Session, answer_of, goes, lines_to, reply, stands_at, told_lines}}
 use Rattle.debug_session.proofs.Between.{between-is}
-use Rattle.debug_session.specs.Going.{Standing, lies_between, seek_of, where_to}
-use Rattle.debug_session.specs.Place.{Run, view_of}
-use Rattle.debug_session.specs.Session.{Session, answer_of, goes, lines_to, reply, stands_at, told_lines}
-use Rattle.session_laws.specs.EarlyEnd.{EndsEarly, LedTo, MayEndEarly}
-use Rattle.session_laws.specs.FirstStop.{HasStopped}
-use Rattle.session_laws.specs.StepBack.{MayStandAt}
-use Rattle.session_laws.specs.ToldLines.{TellsBetween}
-use Rattle.session_laws.proofs.FirstStops.{stops-first, stops-last}
-use Rattle.session_laws.proofs.Sessions.{gone-stands}
-use Rattle.session_laws.proofs.ToldPieces.{tells-between}
+use Rattle.session_laws.specs.{EarlyEnd.{EndsEarly, LedTo, MayEndEarly}, FirstStop.HasStopped, StepBack.MayStandAt, ToldLines.TellsBetween}
+use Rattle.session_laws.proofs.{FirstStops.{stops-first, stops-last}, Sessions.gone-stands, ToldPieces.tells-between}
 
 module _ (run : Run) (session : Session) (stands : MayStandAt (view_of run) session.place) where
   abbrev whole : Way → Going → Standing

@@ -1,16 +1,8 @@
 -- The scans find the first cause ahead and the last one before.
 use Rattle.std.proofs.Common.{◌≡◌, ◌<◌, ◌≤◌, ◌+◌, ◌-◌, ◌⊎◌, ℕ, zero, suc, Option, Some, None, inl, inr, ⊎_elim, refl, ap, subst, arith}
 use Rattle.std.proofs.lemmas.Bool.{cases_lt}
-use Rattle.debug_session.specs.Request.{most_steps}
-use Rattle.debug_session.specs.declared.command.Going.{Going}
+use Rattle.debug_session.specs.{Request.most_steps, declared.{command.{Going.Going, Way.TheVariants.{Ahead, Back}}, stop.Stop.{Stop, TheVariants.{Begin, End}}}, Cause.cause as cause_at, Going.{Standing, first_stop, last_stop, seek_of, standing_at, where_to}, Sight.View, Stops.Stops}
 use Rattle.session_laws.specs.FirstStop.{HasStopped, IsFirstStop, IsLastStop}
-use Rattle.debug_session.specs.declared.command.Way.TheVariants.{Ahead, Back}
-use Rattle.debug_session.specs.Cause.{cause as cause_at}
-use Rattle.debug_session.specs.Going.{Standing, first_stop, last_stop, seek_of, standing_at, where_to}
-use Rattle.debug_session.specs.Sight.{View}
-use Rattle.debug_session.specs.Stops.{Stops}
-use Rattle.debug_session.specs.declared.stop.Stop.{Stop}
-use Rattle.debug_session.specs.declared.stop.Stop.TheVariants.{Begin, End}
 
 module _ (cause : ℕ → Option Stop) (last : ℕ) where
   Ahead_of : ℕ → Standing → Type 0

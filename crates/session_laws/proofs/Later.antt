@@ -4,11 +4,9 @@ use Rattle.std.specs.Prelude.{nat_lt}
 use Rattle.std.proofs.lemmas.Bool.{cases_Bool}
 use Rattle.bus_signals.specs.declared.event.Event.{Event}
 use Rattle.play_script.specs.Grammar.{ScriptSoFar, with_entry}
-use Rattle.text_scan.specs.Reader.{◌>>=◌}
-use Rattle.text_scan.specs.declared.fault_kind.FaultKind.{FaultKind}
+use Rattle.text_scan.specs.{Reader.◌>>=◌, declared.fault_kind.FaultKind.FaultKind}
 use Rattle.device_trace.specs.Trace.{play_of}
-use Rattle.device_live.specs.Answer.{Answer, silent_answer}
-use Rattle.device_live.specs.Life.{Life, events_in, play_lived, with_happening, with_script}
+use Rattle.device_live.specs.{Answer.{Answer, silent_answer}, Life.{Life, events_in, play_lived, with_happening, with_script}}
 use Rattle.device_live.proofs.Lives.{entry-lived}
 
 pub record GoesOn (life later : Life) : Type 0 where

@@ -3,29 +3,10 @@ use Rattle.std.proofs.Common.{◌≡◌, ◌≤◌, ◌-◌, ◌++◌, ℕ, List
 use Rattle.std.specs.Prelude.{codes}
 use Rattle.bus_signals.specs.declared.rule.Rule.{Rule}
 use Rattle.printed_lines.specs.Line.{reset_line}
-use Rattle.debug_link.specs.Console.{console}
-use Rattle.debug_link.specs.declared.connection.Connection.TheVariants.{Open}
-use Rattle.debug_session.specs.declared.stop.Stop.{Stop}
-use Rattle.debug_session.specs.declared.stop.Stop.TheVariants.{Refused}
-use Rattle.debug_session.specs.Command.{command_of}
-use Rattle.debug_session.specs.Request.{most_steps}
-use Rattle.debug_session.specs.declared.command.Command.{Command}
-use Rattle.debug_session.specs.declared.command.Command.TheVariants.{Registers, Memory, Go, Monitor}
-use Rattle.debug_session.specs.declared.command.Going.{Going}
-use Rattle.debug_session.specs.declared.command.Way.{Way}
-use Rattle.debug_session.specs.declared.command.Way.TheVariants.{Ahead, Back}
-use Rattle.debug_session.specs.declared.request.Request.{Request}
-use Rattle.debug_session.specs.declared.request.Request.TheVariants.{Flags, Play as PlayText, Trace}
-use Rattle.debug_session.specs.Cause.{ahead, refusal}
-use Rattle.debug_session.specs.Going.{Standing, interrupted, where_to}
-use Rattle.debug_session.specs.Monitor.{flags_text, request_text}
-use Rattle.debug_session.specs.Session.{Session, after_request, answer_of, goes, lines_to, reply, says, stands_at, refusal_warning}
-use Rattle.debug_session.specs.Shown.{memory_body, registers_shown}
-use Rattle.debug_session.specs.Sight.{View}
+use Rattle.debug_link.specs.{Console.console, declared.connection.Connection.TheVariants.Open}
+use Rattle.debug_session.specs.{declared.{stop.Stop.{Stop, TheVariants.Refused}, command.{Command.{Command, TheVariants.{Registers, Memory, Go, Monitor}}, Going.Going, Way.{Way, TheVariants.{Ahead, Back}}}, request.Request.{Request, TheVariants.{Flags, Play as PlayText, Trace}}}, Command.command_of, Request.most_steps, Cause.{ahead, refusal}, Going.{Standing, interrupted, where_to}, Monitor.{flags_text, request_text}, Session.{Session, after_request, answer_of, goes, lines_to, reply, says, stands_at, refusal_warning}, Shown.{memory_body, registers_shown}, Sight.View}
 use Rattle.session_laws.specs.Gone.{next_boundary}
-use Rattle.session_laws.proofs.Boundaries.{boundary-behind}
-use Rattle.session_laws.proofs.SameSights.{IsSameTo, memory-still, refused-same, texts-same, told-same}
-use Rattle.session_laws.proofs.SameWay.{gone-same, gone-tells}
+use Rattle.session_laws.proofs.{Boundaries.boundary-behind, SameSights.{IsSameTo, memory-still, refused-same, texts-same, told-same}, SameWay.{gone-same, gone-tells}}
 
 module _ (last : ℕ) (left right : View) (same : IsSameTo last left right) where
   warning-same : (place : ℕ) (stop : Stop) → next_boundary left place ≤ last

@@ -3,21 +3,12 @@ use Rattle.std.proofs.Common.{◌≡◌, ◌++◌, ◌∙◌, ℕ, zero, suc, Li
 use Rattle.std.specs.Prelude.{codes}
 use Rattle.bus_signals.specs.Address.{Bytes}
 use Rattle.source_server.specs.HeldLine.{short_line}
-use Rattle.device_trace.specs.Play.{Play}
-use Rattle.device_trace.specs.Start.{Start}
-use Rattle.device_trace.specs.Trace.{released_words}
-use Rattle.key_isolation.specs.Agreement.{ReleaseAlike, SameButKey}
-use Rattle.key_isolation.specs.Keyless.{keyless}
-use Rattle.key_isolation.proofs.Hiding.{open_start}
-use Rattle.key_isolation.proofs.TwoKeys.{one_keyless}
-use Rattle.session_laws.proofs.WithoutKey.{Released, released_before}
-use Rattle.device_live.specs.Answer.{Answer, or_refusal, run_of, standing_line}
-use Rattle.device_live.specs.Conversation.{Talk, answer_to, talk_of, with_answer, with_line}
-use Rattle.device_live.specs.Life.{Life, play_lived}
+use Rattle.device_trace.specs.{Play.Play, Start.Start, Trace.released_words}
+use Rattle.key_isolation.specs.{Agreement.{ReleaseAlike, SameButKey}, Keyless.keyless}
+use Rattle.key_isolation.proofs.{Hiding.open_start, TwoKeys.one_keyless}
+use Rattle.session_laws.proofs.{WithoutKey.{Released, released_before}, Later.GoesOn, SameLiveAnswer.{IsAnsweredAlike, answered-alike, standing-same}, SameRuns.same_without_key}
+use Rattle.device_live.specs.{Answer.{Answer, or_refusal, run_of, standing_line}, Conversation.{Talk, answer_to, talk_of, with_answer, with_line}, Life.{Life, play_lived}}
 use Rattle.session_laws.specs.LivingSecrecy.{AnswersAlike, IsOneTalk, lived_behind}
-use Rattle.session_laws.proofs.Later.{GoesOn}
-use Rattle.session_laws.proofs.SameLiveAnswer.{IsAnsweredAlike, answered-alike, standing-same}
-use Rattle.session_laws.proofs.SameRuns.{same_without_key}
 
 -- the life behind lines is that of any device
 life-same : (left right : Start) (lines : List (List ℕ))

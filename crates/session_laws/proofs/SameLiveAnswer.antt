@@ -5,18 +5,11 @@ use Rattle.std.proofs.lemmas.Bool.{cases_Bool}
 use Rattle.std.proofs.lemmas.Bool.Decides.{nat_tests}
 use Rattle.bus_signals.specs.Address.{Bytes}
 use Rattle.printed_lines.specs.Line.{place_line}
-use Rattle.text_scan.specs.Reader.{◌>>=◌}
-use Rattle.text_scan.specs.Word.{is_passed_over, words_of}
-use Rattle.text_scan.specs.declared.fault_kind.FaultKind.{FaultKind}
+use Rattle.text_scan.specs.{Reader.◌>>=◌, Word.{is_passed_over, words_of}, declared.fault_kind.FaultKind.FaultKind}
 use Rattle.device_trace.specs.Start.{Start}
 use Rattle.debug_session.specs.Place.{Run as PlayedRun, logs_at}
-use Rattle.device_live.specs.Answer.{Answer, answer_of, or_refusal, run_of, says, standing_line, tells}
-use Rattle.device_live.specs.Conversation.{answer_to}
-use Rattle.device_live.specs.Life.{Life, lines_since}
-use Rattle.device_live.specs.LiveLine.{LiveLine, Happens, Run, Registers, Memory, live_line_of}
-use Rattle.device_live.specs.Shown.{memory_text, registers_text}
-use Rattle.session_laws.proofs.Later.{GoesOn, LeadsOn, goes-nowhere, happening-goes}
-use Rattle.session_laws.proofs.SameRuns.{SameRuns, bytes-same}
+use Rattle.device_live.specs.{Answer.{Answer, answer_of, or_refusal, run_of, says, standing_line, tells}, Conversation.answer_to, Life.{Life, lines_since}, LiveLine.{LiveLine, Happens, Run, Registers, Memory, live_line_of}, Shown.{memory_text, registers_text}}
+use Rattle.session_laws.proofs.{Later.{GoesOn, LeadsOn, goes-nowhere, happening-goes}, SameRuns.{SameRuns, bytes-same}}
 
 -- so many steps are told alike
 since-same : {left right : PlayedRun} {most : ℕ} → SameRuns left right most

@@ -3,13 +3,7 @@ use Rattle.std.proofs.Common.{◌≡◌, ◌<◌, ◌≤◌, ◌+◌, ◌-◌, �
 use Rattle.std.specs.Prelude.{◌==◌, is_some, if◌then◌else◌}
 use Rattle.bus_signals.specs.declared.rule.Rule.{Rule}
 use Rattle.debug_link.specs.Console.{console}
-use Rattle.debug_session.specs.Stops.{Stops}
-use Rattle.debug_session.specs.Cause.{Seek, Step, ahead, behind, sights_between, cause, cause_here, hit_on, hits, is_plain, refusal, refusal_or, steps_over, stop_of}
-use Rattle.debug_session.specs.Monitor.{texts_from}
-use Rattle.debug_session.specs.Place.{no_step}
-use Rattle.debug_session.specs.Session.{refused_step, told_lines}
-use Rattle.debug_session.specs.Shown.{bytes_or, bytes_shown, byte_and, memory_body}
-use Rattle.debug_session.specs.Sight.{Sight, StepSight, View}
+use Rattle.debug_session.specs.{Stops.Stops, Cause.{Seek, Step, ahead, behind, sights_between, cause, cause_here, hit_on, hits, is_plain, refusal, refusal_or, steps_over, stop_of}, Monitor.texts_from, Place.no_step, Session.{refused_step, told_lines}, Shown.{bytes_or, bytes_shown, byte_and, memory_body}, Sight.{Sight, StepSight, View}}
 
 -- what is shown at a place, without the step that is made there
 abbrev pub still : Sight → Sight

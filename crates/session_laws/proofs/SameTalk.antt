@@ -2,23 +2,13 @@
 use Rattle.std.proofs.Common.{◌≡◌, ◌≤◌, ◌++◌, ℕ, zero, suc, Bool, true, false, List, [], ◌∷◌, Option, length, max, nat_lt, refl, ap, sym, subst, ◌∙◌, arith}
 use Rattle.std.specs.Prelude.{if◌then◌else◌, take}
 use Rattle.bus_signals.specs.declared.event.Event.{Event}
-use Rattle.device_trace.specs.Start.{Start}
-use Rattle.device_trace.specs.Trace.{play_of, released_words}
-use Rattle.key_isolation.specs.Agreement.{ReleaseAlike, SameButKey}
-use Rattle.key_isolation.specs.Keyless.{keyless}
+use Rattle.device_trace.specs.{Start.Start, Trace.{play_of, released_words}}
+use Rattle.key_isolation.specs.{Agreement.{ReleaseAlike, SameButKey}, Keyless.keyless}
 use Rattle.key_isolation.proofs.TwoKeys.{one_keyless}
-use Rattle.debug_link.specs.Conversation.{Answer, Input, LONGEST_BODY, Talk, answer_to, talk_after_message, first_talk, talk_after_byte, talk_with_byte, talk_with_inputs, with_answer}
-use Rattle.debug_link.specs.Link.{Message, Silence, Again, Damage, Whole, message_of}
-use Rattle.debug_link.specs.declared.connection.Connection.TheVariants.{Open}
-use Rattle.debug_session.specs.Place.{Run, view_of}
-use Rattle.debug_session.specs.Session.{Session, first_session, reply}
-use Rattle.debug_session.specs.Sight.{View}
-use Rattle.session_laws.specs.Gone.{furthest, gone_to, next_boundary, steps_gone}
-use Rattle.session_laws.specs.DebuggerSecrecy.{TellsTheSame, run_of}
-use Rattle.session_laws.proofs.Boundaries.{boundary-behind, boundary-later}
-use Rattle.session_laws.proofs.SameAnswer.{reply-same}
-use Rattle.session_laws.proofs.SameSights.{IsSameTo, joined, turned}
-use Rattle.session_laws.proofs.WithoutKey.{view-same}
+use Rattle.debug_link.specs.{Conversation.{Answer, Input, LONGEST_BODY, Talk, answer_to, talk_after_message, first_talk, talk_after_byte, talk_with_byte, talk_with_inputs, with_answer}, Link.{Message, Silence, Again, Damage, Whole, message_of}, declared.connection.Connection.TheVariants.Open}
+use Rattle.debug_session.specs.{Place.{Run, view_of}, Session.{Session, first_session, reply}, Sight.View}
+use Rattle.session_laws.specs.{Gone.{furthest, gone_to, next_boundary, steps_gone}, DebuggerSecrecy.{TellsTheSame, run_of}}
+use Rattle.session_laws.proofs.{Boundaries.{boundary-behind, boundary-later}, SameAnswer.reply-same, SameSights.{IsSameTo, joined, turned}, WithoutKey.view-same}
 
 furthest-from : (view : View) (talk : Talk Session) (inputs : List (Input ℕ))
     → talk.session.place ≤ furthest view talk inputs

@@ -3,21 +3,10 @@ use Rattle.std.proofs.Common.{◌≡◌, ◌<◌, ◌≤◌, ◌+◌, ◌-◌, �
 use Rattle.std.specs.Prelude.{◌==◌, ◌&&◌, ◌||◌, nat_le, if◌then◌else◌}
 use Rattle.std.proofs.lemmas.Bool.{and_from, and_left, and_parts, cases_Bool, cases_lt, eqb-true, le-leb, leb-true, or_cases}
 use Rattle.bus_signals.specs.declared.rule.Rule.{Rule}
-use Rattle.debug_session.specs.Request.{most_steps}
-use Rattle.debug_session.specs.declared.command.Going.{Going}
-use Rattle.debug_session.specs.declared.command.Way.{Way}
-use Rattle.debug_session.specs.declared.command.Way.TheVariants.{Ahead, Back}
-use Rattle.debug_session.specs.Stops.{Stops}
-use Rattle.debug_session.specs.declared.stop.Stop.{Stop}
-use Rattle.debug_session.specs.declared.stop.Stop.TheVariants.{Interrupted, Refused}
-use Rattle.debug_session.specs.declared.watch.Hit.{Hit}
-use Rattle.debug_session.specs.Cause.{Seek, ahead, behind, sights_between, cause, cause_here, hit_on, hits, is_plain, refusal, steps_over, stop_of}
+use Rattle.debug_session.specs.{Request.most_steps, declared.{command.{Going.Going, Way.{Way, TheVariants.{Ahead, Back}}}, stop.Stop.{Stop, TheVariants.{Interrupted, Refused}}, watch.Hit.Hit}, Stops.Stops, Cause.{Seek, ahead, behind, sights_between, cause, cause_here, hit_on, hits, is_plain, refusal, steps_over, stop_of}, Going.{Standing, first_stop, interrupted, last_of, last_stop, lies_between, seek_of, standing_at, step_of, where_to}, Sight.{Sight, View}}
 use Rattle.debug_session.proofs.Between.{between-is, is-between}
-use Rattle.debug_session.specs.Going.{Standing, first_stop, interrupted, last_of, last_stop, lies_between, seek_of, standing_at, step_of, where_to}
-use Rattle.debug_session.specs.Sight.{Sight, View}
 use Rattle.session_laws.specs.Gone.{next_boundary}
-use Rattle.session_laws.proofs.Boundaries.{boundary-behind, boundary-later, reach-few, reach-within}
-use Rattle.session_laws.proofs.SameSights.{IsSameTo, boundary-same, cause-same}
+use Rattle.session_laws.proofs.{Boundaries.{boundary-behind, boundary-later, reach-few, reach-within}, SameSights.{IsSameTo, boundary-same, cause-same}}
 
 standing-from : (place : ℕ) (found : Option Stop) (other : Standing) (at : ℕ)
     → at ≤ place → at ≤ other.place → at ≤ (standing_at place found other).place

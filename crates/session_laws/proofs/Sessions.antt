@@ -2,29 +2,11 @@
 use Rattle.std.proofs.Common.{◌≡◌, ◌<◌, ◌≤◌, ◌+◌, ◌⊎◌, inl, inr, ⊎_elim, ℕ, Bool, true, false, List, [], ◌∷◌, Option, Some, None, length, nat_lt, refl, ap, sym, subst, arith}
 use Rattle.std.specs.Prelude.{◌==◌, ◌&&◌, ◌||◌, if◌then◌else◌, max, min, nat_le}
 use Rattle.std.proofs.lemmas.Bool.{and_parts, eqb-true, leb-true, or_cases}
-use Rattle.debug_link.specs.Conversation.{Answer, Input, LONGEST_BODY, Talk, talk_after_message, first_talk, talk_after_byte, talk_with_byte, talk_with_inputs}
-use Rattle.debug_link.specs.Link.{Message, Silence, Again, Damage, Whole, message_of}
-use Rattle.debug_link.specs.declared.connection.Connection.TheVariants.{Open}
-use Rattle.debug_session.specs.Command.{command_of}
-use Rattle.debug_session.specs.Request.{most_steps}
-use Rattle.debug_session.specs.declared.command.Command.{Command}
-use Rattle.debug_session.specs.declared.command.Command.TheVariants.{Change, Go, Monitor}
-use Rattle.debug_session.specs.declared.command.Going.{Going}
-use Rattle.debug_session.specs.declared.command.Way.{Way}
-use Rattle.debug_session.specs.declared.command.Way.TheVariants.{Ahead, Back}
-use Rattle.debug_session.specs.declared.request.Request.{Request}
-use Rattle.debug_session.specs.declared.request.Request.TheVariants.{Until}
-use Rattle.debug_session.specs.Stops.{Stops, with_change}
-use Rattle.debug_session.specs.declared.stop.Stop.TheVariants.{Begin, End, Interrupted}
-use Rattle.debug_session.specs.Cause.{cause}
+use Rattle.debug_link.specs.{Conversation.{Answer, Input, LONGEST_BODY, Talk, talk_after_message, first_talk, talk_after_byte, talk_with_byte, talk_with_inputs}, Link.{Message, Silence, Again, Damage, Whole, message_of}, declared.connection.Connection.TheVariants.Open}
+use Rattle.debug_session.specs.{Command.command_of, Request.most_steps, declared.{command.{Command.{Command, TheVariants.{Change, Go, Monitor}}, Going.Going, Way.{Way, TheVariants.{Ahead, Back}}}, request.Request.{Request, TheVariants.Until}, stop.Stop.TheVariants.{Begin, End, Interrupted}}, Stops.{Stops, with_change}, Cause.cause, Going.{Standing, interrupted, lies_between, seek_of, where_to}, Session.{Session, after_request, answer_of, first_session, reply, with_stops}, Sight.View}
 use Rattle.debug_session.proofs.Between.{between-is}
-use Rattle.debug_session.specs.Going.{Standing, interrupted, lies_between, seek_of, where_to}
-use Rattle.debug_session.specs.Session.{Session, after_request, answer_of, first_session, reply, with_stops}
-use Rattle.debug_session.specs.Sight.{View}
-use Rattle.session_laws.specs.FirstStop.{HasStopped}
-use Rattle.session_laws.specs.StepBack.{MayStandAt, session_after}
-use Rattle.session_laws.proofs.FirstStops.{stops-first, stops-last}
-use Rattle.session_laws.proofs.StepsBack.{at-boundary}
+use Rattle.session_laws.specs.{FirstStop.HasStopped, StepBack.{MayStandAt, session_after}}
+use Rattle.session_laws.proofs.{FirstStops.{stops-first, stops-last}, StepsBack.at-boundary}
 
 module _ (view : View) (stops : Stops) where
   pub gone-stands : (way : Way) (going : Going) (place : ℕ) → MayStandAt view place

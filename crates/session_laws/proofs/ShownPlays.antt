@@ -7,22 +7,10 @@ use Rattle.std.proofs.lemmas.Bool.{cases_Bool, cond-false, cond-true, ne_eqb}
 use Rattle.hex.specs.Hex.{encode_lower}
 use Rattle.word_arith.specs.declared.size.Size.TheVariants.{Byte}
 use Rattle.bus_signals.specs.declared.event.Event.{Event}
-use Rattle.device_trace.specs.Logs.{Logs}
-use Rattle.device_trace.specs.Play.{Play}
-use Rattle.device_trace.specs.Signals.{number_read}
-use Rattle.device_trace.specs.Start.{Start}
-use Rattle.device_trace.specs.Text.{end_line_after, lines_of, play_text}
-use Rattle.device_trace.specs.Trace.{play_of}
+use Rattle.device_trace.specs.{Logs.Logs, Play.Play, Signals.number_read, Start.Start, Text.{end_line_after, lines_of, play_text}, Trace.play_of}
 use Rattle.trace_files.specs.TraceText.{trace_text}
-use Rattle.debug_link.specs.Console.{console}
-use Rattle.debug_link.specs.Conversation.{Answer}
-use Rattle.debug_link.specs.declared.connection.Connection.TheVariants.{Open}
-use Rattle.debug_session.specs.Request.{most_steps}
-use Rattle.debug_session.specs.Monitor.{flags_text as flags_here, last_lines, texts_from}
-use Rattle.debug_session.specs.Place.{Run, is_shown, logs_at, play_to, sight_at, view_of}
-use Rattle.debug_session.specs.Session.{Session, says}
-use Rattle.debug_session.specs.Shown.{byte_and, bytes_or, bytes_shown, memory_body, registers_shown}
-use Rattle.debug_session.specs.Sight.{Sight}
+use Rattle.debug_link.specs.{Console.console, Conversation.Answer, declared.connection.Connection.TheVariants.Open}
+use Rattle.debug_session.specs.{Request.most_steps, Monitor.{flags_text as flags_here, last_lines, texts_from}, Place.{Run, is_shown, logs_at, play_to, sight_at, view_of}, Session.{Session, says}, Shown.{byte_and, bytes_or, bytes_shown, memory_body, registers_shown}, Sight.Sight}
 use Rattle.debug_session.proofs.Views.{view-at}
 use Rattle.session_laws.specs.ShownPlay.{AreRead, ShowsPlay, flags_text}
 use Rattle.session_laws.proofs.StepTexts.{length-steps, lines-joined, trace-joined}

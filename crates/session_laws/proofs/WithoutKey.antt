@@ -4,39 +4,15 @@ use Rattle.std.specs.Prelude.{◌||◌, nat_lt, if◌then◌else◌}
 use Rattle.std.proofs.Math.Nat.{min-le_left}
 use Rattle.std.proofs.lemmas.List.{append_cancel_left}
 use Rattle.word_arith.specs.declared.size.Size.TheVariants.{Byte}
-use Rattle.bus_signals.specs.declared.access.Access.TheVariants.{Read}
-use Rattle.bus_signals.specs.declared.bus_record.BusRecord.{BusRecord}
-use Rattle.bus_signals.specs.declared.event.Event.{Event}
-use Rattle.bus_signals.specs.Access.{without_number}
-use Rattle.bus_signals.specs.Map.{AUX_WORD, EXEC_WORD, key_region, lies_in, stack_region}
+use Rattle.bus_signals.specs.{declared.{access.Access.TheVariants.Read, bus_record.BusRecord.BusRecord, event.Event.Event}, Access.without_number, Map.{AUX_WORD, EXEC_WORD, key_region, lies_in, stack_region}}
 use Rattle.part_definitions.specs.Memory.{ShownFlags}
 use Rattle.printed_lines.specs.Line.{end_line}
-use Rattle.device_trace.specs.Blank.{blank, blank_record, touches_secrets}
-use Rattle.device_trace.specs.Logs.{Logs, aux_of, exec_of}
-use Rattle.device_trace.specs.Play.{Play}
-use Rattle.device_trace.specs.Progress.{Progress, Held, Runs, InCall, last_registers, next_pc_of, stands_at_boundary}
-use Rattle.device_trace.specs.Signals.{number_read}
-use Rattle.device_trace.specs.Start.{Start}
-use Rattle.device_trace.specs.Step.{next_record}
-use Rattle.device_trace.specs.Text.{lines_of, lines_of_step}
-use Rattle.device_trace.specs.Trace.{logs_after, released_words, trace}
-use Rattle.key_isolation.proofs.FlagBlank.{exec-blank}
-use Rattle.key_isolation.proofs.Hiding.{flags_of-hide, hide, hide_progress, last_registers-hide, next_pc_of-hide, open_start}
-use Rattle.key_isolation.proofs.Induction.{play_hides, releases_before}
-use Rattle.key_isolation.proofs.Reading.{value_read-hide}
-use Rattle.key_isolation.proofs.TextBlank.{lines_of-hide}
-use Rattle.trace_files.specs.LineText.{trace_line}
-use Rattle.trace_files.specs.TraceText.{next_line, trace_lines}
-use Rattle.trace_files.proofs.SameSight.{shape-told}
-use Rattle.trace_files.proofs.SameText.{lines_keyless}
-use Rattle.debug_session.specs.Request.{most_steps}
-use Rattle.debug_session.specs.Watched.{flag_access, hits_by, hits_of, seen_accesses}
-use Rattle.debug_session.specs.declared.watch.Hit.{Hit}
-use Rattle.debug_session.specs.declared.watch.Watch.{Watch}
-use Rattle.debug_session.specs.Place.{Run, aux_at, differs, exec_at, is_shown, logs_at, next_sight, no_step, play_to, shown_at, sight_at, step_at, step_sight, view_of}
-use Rattle.debug_session.specs.Sight.{StepSight}
-use Rattle.session_laws.proofs.SameHits.{same_hits}
-use Rattle.session_laws.proofs.SameSights.{IsSameTo, still}
+use Rattle.device_trace.specs.{Blank.{blank, blank_record, touches_secrets}, Logs.{Logs, aux_of, exec_of}, Play.Play, Progress.{Progress, Held, Runs, InCall, last_registers, next_pc_of, stands_at_boundary}, Signals.number_read, Start.Start, Step.next_record, Text.{lines_of, lines_of_step}, Trace.{logs_after, released_words, trace}}
+use Rattle.key_isolation.proofs.{FlagBlank.exec-blank, Hiding.{flags_of-hide, hide, hide_progress, last_registers-hide, next_pc_of-hide, open_start}, Induction.{play_hides, releases_before}, Reading.value_read-hide, TextBlank.lines_of-hide}
+use Rattle.trace_files.specs.{LineText.trace_line, TraceText.{next_line, trace_lines}}
+use Rattle.trace_files.proofs.{SameSight.shape-told, SameText.lines_keyless}
+use Rattle.debug_session.specs.{Request.most_steps, Watched.{flag_access, hits_by, hits_of, seen_accesses}, declared.watch.{Hit.Hit, Watch.Watch}, Place.{Run, aux_at, differs, exec_at, is_shown, logs_at, next_sight, no_step, play_to, shown_at, sight_at, step_at, step_sight, view_of}, Sight.StepSight}
+use Rattle.session_laws.proofs.{SameHits.same_hits, SameSights.{IsSameTo, still}}
 
 -- the same run without its key, where the calls release these words
 abbrev pub open_run : List ℕ → Run → Run

@@ -3,8 +3,7 @@ use Rattle.std.specs.Prelude.{◌≡◌, ℕ, List, take}
 use Rattle.bus_signals.specs.declared.event.Event.{Event}
 use Rattle.device_trace.specs.Start.{Start}
 use Rattle.debug_link.specs.Conversation.{Input, conversation}
-use Rattle.debug_session.specs.Place.{Run, view_of}
-use Rattle.debug_session.specs.Session.{first_session, reply}
+use Rattle.debug_session.specs.{Place.{Run, view_of}, Session.{first_session, reply}}
 
 abbrev pub run_of : Start → (ℕ → List Event) → Run
 run_of start events_at = record { start = start; events_at = events_at }

@@ -1,10 +1,7 @@
 -- A way that an interrupt ends early.
 use Rattle.std.specs.Prelude.{◌≡◌, ◌≤◌, ◌⊎◌, ◌++◌, ℕ, true, List, [], ◌∷◌, Option, None, codes}
-use Rattle.debug_link.specs.Conversation.{Answer}
-use Rattle.debug_link.specs.declared.connection.Connection.TheVariants.{Open}
-use Rattle.debug_session.specs.Place.{Run, view_of}
-use Rattle.debug_session.specs.Session.{Session, reply}
-use Rattle.debug_session.specs.declared.stop.Stop.TheVariants.{Interrupted}
+use Rattle.debug_link.specs.{Conversation.Answer, declared.connection.Connection.TheVariants.Open}
+use Rattle.debug_session.specs.{Place.{Run, view_of}, Session.{Session, reply}, declared.stop.Stop.TheVariants.Interrupted}
 use Rattle.session_laws.specs.ToldLines.{TellsBetween}
 
 -- a way from one place towards another led to here: ahead, and these packets tell the lines of the

@@ -1,8 +1,6 @@
 -- The first place behind another where there is a cause to stop, and the last one before.
 use Rattle.std.specs.Prelude.{◌≡◌, ◌<◌, ◌≤◌, ◌⊎◌, ◌+◌, ℕ, Option, Some, None}
-use Rattle.debug_session.specs.Going.{Standing}
-use Rattle.debug_session.specs.declared.stop.Stop.{Stop}
-use Rattle.debug_session.specs.declared.stop.Stop.TheVariants.{Begin, End}
+use Rattle.debug_session.specs.{Going.Standing, declared.stop.Stop.{Stop, TheVariants.{Begin, End}}}
 
 -- a place between two others that has a cause, which is told
 pub record HasStopped (cause : ℕ → Option Stop) (first last : ℕ) (now : Standing) : Type 0 where

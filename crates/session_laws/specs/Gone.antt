@@ -2,11 +2,7 @@
 use Rattle.std.specs.Prelude.{ℕ, ◌+◌, ◌-◌, List, [], ◌∷◌, length, max}
 use Rattle.device_trace.specs.Play.{Play}
 use Rattle.debug_link.specs.Conversation.{Input, Talk, first_talk, talk_with_byte}
-use Rattle.debug_session.specs.Request.{most_steps}
-use Rattle.debug_session.specs.Cause.{ahead}
-use Rattle.debug_session.specs.Place.{Run, play_to, view_of}
-use Rattle.debug_session.specs.Session.{Session, first_session, reply}
-use Rattle.debug_session.specs.Sight.{View}
+use Rattle.debug_session.specs.{Request.most_steps, Cause.ahead, Place.{Run, play_to, view_of}, Session.{Session, first_session, reply}, Sight.View}
 
 -- the furthest place where a session stands, now or behind any of these inputs
 abbrev pub furthest : View → Talk Session → List (Input ℕ) → ℕ

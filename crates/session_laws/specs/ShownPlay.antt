@@ -4,24 +4,10 @@ use Rattle.std.specs.Fmt.{decimal}
 use Rattle.hex.specs.Hex.{encode_lower}
 use Rattle.word_arith.specs.declared.size.Size.TheVariants.{Byte}
 use Rattle.printed_lines.specs.Line.{flag_digit}
-use Rattle.device_trace.specs.Logs.{Logs, aux_of, exec_of}
-use Rattle.device_trace.specs.Play.{Play}
-use Rattle.device_trace.specs.Progress.{last_registers}
-use Rattle.device_trace.specs.Signals.{number_read}
-use Rattle.device_trace.specs.Start.{Start}
-use Rattle.device_trace.specs.Text.{play_text}
-use Rattle.device_trace.specs.Trace.{logs_after}
+use Rattle.device_trace.specs.{Logs.{Logs, aux_of, exec_of}, Play.Play, Progress.last_registers, Signals.number_read, Start.Start, Text.play_text, Trace.logs_after}
 use Rattle.trace_files.specs.TraceText.{trace_text}
-use Rattle.debug_link.specs.Console.{console}
-use Rattle.debug_link.specs.declared.connection.Connection.TheVariants.{Open}
-use Rattle.debug_session.specs.Request.{most_steps}
-use Rattle.debug_session.specs.declared.command.Command.{Command}
-use Rattle.debug_session.specs.declared.command.Command.TheVariants.{Memory, Monitor, Registers}
-use Rattle.debug_session.specs.declared.request.Request.{Request}
-use Rattle.debug_session.specs.declared.request.Request.TheVariants.{Flags, Play as PlayText, Steps, Trace}
-use Rattle.debug_session.specs.Place.{Run, is_shown, view_of}
-use Rattle.debug_session.specs.Session.{Session, answer_of}
-use Rattle.debug_session.specs.Shown.{registers_bytes}
+use Rattle.debug_link.specs.{Console.console, declared.connection.Connection.TheVariants.Open}
+use Rattle.debug_session.specs.{Request.most_steps, declared.{command.Command.{Command, TheVariants.{Memory, Monitor, Registers}}, request.Request.{Request, TheVariants.{Flags, Play as PlayText, Steps, Trace}}}, Place.{Run, is_shown, view_of}, Session.{Session, answer_of}, Shown.registers_bytes}
 
 -- a command is answered by these packets, and the session stays as it was
 abbrev pub Gives : Run → Session → Command → List (List ℕ) → Type 0

@@ -1,15 +1,8 @@
 -- A step, and back, and on again.
 use Rattle.std.specs.Prelude.{◌≡◌, ◌<◌, ◌≤◌, ◌⊎◌, ◌-◌, ℕ, true, false, List, length, if◌then◌else◌}
-use Rattle.debug_session.specs.Request.{most_steps}
+use Rattle.debug_session.specs.{Request.most_steps, declared.{command.Way.TheVariants.Ahead, stop.Stop.TheVariants.{Plain, Stepped}}, Cause.{begins_within, behind, boots, is_plain}, Going.{Standing, where_to}, Session.{Session, first_session, reply}, Sight.View, Stops.Stops}
 use Rattle.debug_session.specs.declared.command.Going.TheVariants as going
 use Rattle.debug_link.specs.Conversation.{Input, conversation}
-use Rattle.debug_session.specs.declared.command.Way.TheVariants.{Ahead}
-use Rattle.debug_session.specs.Cause.{begins_within, behind, boots, is_plain}
-use Rattle.debug_session.specs.Going.{Standing, where_to}
-use Rattle.debug_session.specs.Session.{Session, first_session, reply}
-use Rattle.debug_session.specs.Sight.{View}
-use Rattle.debug_session.specs.Stops.{Stops}
-use Rattle.debug_session.specs.declared.stop.Stop.TheVariants.{Plain, Stepped}
 
 -- the session behind what came, a place being that of an interrupt
 abbrev pub session_after : View → List (Input ℕ) → Session

@@ -1,21 +1,8 @@
 ghost use Rattle.std.specs.Prelude.{◌≤◌, ◌-◌, ℕ, List, Option};
 ghost use Rattle.device_trace.specs.Trace.{play_of};
-ghost use Rattle.debug_session.specs.Request.{most_steps};
-ghost use Rattle.debug_session.specs.declared.command.Going.{Going};
-ghost use Rattle.debug_session.specs.declared.command.Going.TheVariants.{Step};
-ghost use Rattle.debug_session.specs.declared.command.Way.TheVariants.{Ahead, Back};
+ghost use Rattle.debug_session.specs.{Request.most_steps, declared.command.{Going.{Going, TheVariants.Step}, Way.TheVariants.{Ahead, Back}}, Cause.cause, Going.{seek_of, where_to}, Place.{Run, view_of}, Session.{Session, told_lines}, Sight.View, Stops.Stops};
 ghost use Rattle.debug_link.specs.Conversation.{Input};
-ghost use Rattle.debug_session.specs.Cause.{cause};
-ghost use Rattle.debug_session.specs.Going.{seek_of, where_to};
-ghost use Rattle.debug_session.specs.Place.{Run, view_of};
-ghost use Rattle.debug_session.specs.Session.{Session, told_lines};
-ghost use Rattle.debug_session.specs.Sight.{View};
-ghost use Rattle.debug_session.specs.Stops.{Stops};
-ghost use Rattle.session_laws.specs.EarlyEnd.{MayEndEarly};
-ghost use Rattle.session_laws.specs.FirstStop.{IsFirstStop, IsLastStop};
-ghost use Rattle.session_laws.specs.ShownPlay.{ShowsPlay};
-ghost use Rattle.session_laws.specs.StepBack.{HasStepped, IsTakenBack, MayStandAt, session_after};
-ghost use Rattle.session_laws.specs.ToldLines.{TellsBetween};
+ghost use Rattle.session_laws.specs.{EarlyEnd.MayEndEarly, FirstStop.{IsFirstStop, IsLastStop}, ShownPlay.ShowsPlay, StepBack.{HasStepped, IsTakenBack, MayStandAt, session_after}, ToldLines.TellsBetween};
 
 /// Going forwards from a place, by whatever command, leads to the first place behind it where there
 /// is a cause to stop, and tells this cause; where there is none it leads to the last place of all.

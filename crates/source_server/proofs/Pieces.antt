@@ -5,8 +5,7 @@ use Rattle.std.specs.Str.Lines.{strip_carriage_return}
 use Rattle.std.proofs.lemmas.Bool.{cases_Bool, ne_eqb}
 use Rattle.std.proofs.lemmas.Bool.Decides.{nat_tests}
 use Rattle.std.proofs.lemmas.List.{append-nil, length-take-le}
-use Rattle.source_server.specs.HeldLine.{LONGEST_LINE, MOST_HELD, HoldsRest, IsCutAnywhere, IsHeld, IsPlain, short_line, with_piece}
-use Rattle.source_server.specs.LineCut.{LineCut, with_byte, with_bytes}
+use Rattle.source_server.specs.{HeldLine.{LONGEST_LINE, MOST_HELD, HoldsRest, IsCutAnywhere, IsHeld, IsPlain, short_line, with_piece}, LineCut.{LineCut, with_byte, with_bytes}}
 
 pub cut_anywhere : IsCutAnywhere
 cut_anywhere cut [] second = refl

@@ -3,13 +3,8 @@ use Rattle.std.proofs.Common.{◌≡◌, ◌≤◌, ◌<◌, ◌⊎◌, ◌+◌,
 use Rattle.std.specs.Prelude.{option_map}
 use Rattle.outside_edge.specs.Count.{Rose}
 use Rattle.outside_edge.specs.declared.source.Source as source
-use Rattle.source_server.specs.declared.halt.Halt.{Halt}
+use Rattle.source_server.specs.{declared.{halt.Halt.Halt, served.Served.{Served, TheVariants.{Done, Spent, ReadFault, WriteFault, Own}}}, Responder.Promise, Serving.{EndsSo, Serves, StopsSo, served_of}, Taken.{KeepsLimit, joined_pieces, most_input}}
 use Rattle.source_server.specs.declared.halt.Halt.TheVariants as halt
-use Rattle.source_server.specs.declared.served.Served.{Served}
-use Rattle.source_server.specs.declared.served.Served.TheVariants.{Done, Spent, ReadFault, WriteFault, Own}
-use Rattle.source_server.specs.Responder.{Promise}
-use Rattle.source_server.specs.Serving.{EndsSo, Serves, StopsSo, served_of}
-use Rattle.source_server.specs.Taken.{KeepsLimit, joined_pieces, most_input}
 
 -- no more were taken than were left
 few_taken : (bytes : List ℕ) (rest : Option (List ℕ)) (taken : List ℕ)

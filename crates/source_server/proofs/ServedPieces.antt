@@ -3,17 +3,12 @@ use Rattle.std.proofs.Common.{◌≡◌, ◌≤◌, ◌<◌, ◌+◌, ◌-◌, �
 use Rattle.std.specs.Prelude.{IfSome, Result, option_map}
 use Rattle.std.proofs.lemmas.List.{append-nil, length-take-le}
 use Rattle.std.proofs.lemmas.List.Elements.{All-cons, All-nil}
-use Rattle.outside_edge.specs.Count.{Rose}
-use Rattle.outside_edge.specs.Source.{IsAsked}
+use Rattle.outside_edge.specs.{Count.Rose, Source.IsAsked}
 use Rattle.outside_edge.specs.declared.source.Source as source
 use Rattle.outside_edge.proofs.Counts.{rose_since}
-use Rattle.source_server.specs.declared.halt.Halt.{Halt}
+use Rattle.source_server.specs.{declared.{halt.Halt.Halt, served.Served.Served}, Responder.{Answers, Ends, Moment, Promise}, Serving.{EndsSo, Serves, StopsSo, served_after, served_of}, Taken.{Gave, HasGiven, IsAtEnd, IsLeft, joined_pieces, most_input}}
 use Rattle.source_server.specs.declared.halt.Halt.TheVariants as halt
-use Rattle.source_server.specs.declared.served.Served.{Served}
 use Rattle.source_server.specs.declared.served.Served.TheVariants as served
-use Rattle.source_server.specs.Responder.{Answers, Ends, Moment, Promise}
-use Rattle.source_server.specs.Serving.{EndsSo, Serves, StopsSo, served_after, served_of}
-use Rattle.source_server.specs.Taken.{Gave, HasGiven, IsAtEnd, IsLeft, joined_pieces, most_input}
 
 -- one take after another, of the bytes that are told
 left_both : (left : Option (List ℕ)) (one two : List ℕ)

@@ -1,11 +1,6 @@
 -- What is answered of bytes that are cut into lines.
 use Rattle.std.specs.Prelude.{◌≡◌, ◌++◌, ℕ, List, Option, Result, OnOk, IfErr}
-use Rattle.source_server.specs.declared.halt.Halt.{Halt}
-use Rattle.source_server.specs.declared.lines.Lines.{Lines}
-use Rattle.source_server.specs.HeldLine.{HoldsRest}
-use Rattle.source_server.specs.LineCut.{LineCut, all_lines, cut_of, whole_lines, with_bytes}
-use Rattle.source_server.specs.LineResponder.{LinePromise}
-use Rattle.source_server.specs.Responder.{Moment, Promise}
+use Rattle.source_server.specs.{declared.{halt.Halt.Halt, lines.Lines.Lines}, HeldLine.HoldsRest, LineCut.{LineCut, all_lines, cut_of, whole_lines, with_bytes}, LineResponder.LinePromise, Responder.{Moment, Promise}}
 
 -- the lines of a cut were answered, and what is held stands for the rest
 pub record HoldsCut {X O : Type 0} (promise : LinePromise X O) (held : Option (List ℕ)) (now : X)

@@ -1,12 +1,8 @@
 -- How a source is served: what is taken of it, what was answered, and why it ended.
 use Rattle.std.specs.Prelude.{◌≡◌, ◌⊎◌, ℕ, List, [], drop, length, take, Result, Ok, Err}
 use Rattle.outside_edge.specs.declared.source.Source as source
-use Rattle.source_server.specs.declared.halt.Halt.{Halt}
+use Rattle.source_server.specs.{declared.{halt.Halt.Halt, served.Served.{Served, TheVariants.{Done, Spent, ReadFault, WriteFault, Own}}}, Responder.Promise, Taken.{HasGiven, IsAtEnd, IsAtFault, IsLeft, joined_pieces, most_input}}
 use Rattle.source_server.specs.declared.halt.Halt.TheVariants as halt
-use Rattle.source_server.specs.declared.served.Served.{Served}
-use Rattle.source_server.specs.declared.served.Served.TheVariants.{Done, Spent, ReadFault, WriteFault, Own}
-use Rattle.source_server.specs.Responder.{Promise}
-use Rattle.source_server.specs.Taken.{HasGiven, IsAtEnd, IsAtFault, IsLeft, joined_pieces, most_input}
 
 -- where a responder stopped, and at the end of its source
 abbrev pub served_of : {O : Type 0} → Halt O → Served O

@@ -1,7 +1,5 @@
 ghost use Rattle.std.specs.Prelude.{◌≡◌, ◌≢◌, ◌<◌, ℕ, List, IfNone, IfSome, length, slice_index};
-ghost use Rattle.source_server.specs.LineCut.{LineCut};
-ghost use Rattle.source_server.specs.Lines.{HoldsCut, TellsPiece};
-ghost use Rattle.source_server.specs.Responder.{Moment};
+ghost use Rattle.source_server.specs.{LineCut.LineCut, Lines.{HoldsCut, TellsPiece}, Responder.Moment};
 
 use crate::halt::Halt;
 use crate::held_line::HeldLine;

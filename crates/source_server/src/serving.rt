@@ -1,9 +1,6 @@
 ghost use Rattle.std.specs.Prelude.{◌≡◌, ◌<◌, ◌≤◌, [], length, take, IfOk, IfSome, OnErr};
-ghost use Rattle.outside_edge.specs.Sink.{CountsFaults};
-ghost use Rattle.outside_edge.specs.Source.{IsAsked};
-ghost use Rattle.source_server.specs.Responder.{Moment};
-ghost use Rattle.source_server.specs.Serving.{Serves};
-ghost use Rattle.source_server.specs.Taken.{Gave};
+ghost use Rattle.outside_edge.specs.{Sink.CountsFaults, Source.IsAsked};
+ghost use Rattle.source_server.specs.{Responder.Moment, Serving.Serves, Taken.Gave};
 
 use crate::responder::Responder;
 use crate::served::Served;

@@ -4,24 +4,12 @@ use Rattle.std.proofs.lemmas.Bool.{cases_Bool, lt-ltb}
 use Rattle.std.proofs.lemmas.Bool.Decides.{nat_tests}
 use Rattle.word_arith.specs.declared.size.Size.TheVariants.{Word}
 use Rattle.std.specs.Prelude.{◌==◌, ◌+◌, ◌*◌, nat_lt, slice_index}
-use Rattle.bus_signals.specs.declared.access.Access.{Access}
-use Rattle.bus_signals.specs.Map.{mac_region, DERIVED_KEY, INNER_DIGEST, KEPT_COUNTER}
-use Rattle.part_definitions.specs.BusAccess.{read_at, write_at}
-use Rattle.part_definitions.specs.Attestation.{CallItem, KeptWrite, DecisionWrite, DerivedKeyWrite, RegionRead, InnerDigestWrite, MacWrite, call_item, item_access, item_pc, bounds_read, decision_read, region_words, region_place, written_word, word_of_bytes, is_return, word_passed}
+use Rattle.bus_signals.specs.{declared.{access.Access.Access, bounds.Bounds.Bounds}, Map.{mac_region, DERIVED_KEY, INNER_DIGEST, KEPT_COUNTER}}
+use Rattle.part_definitions.specs.{BusAccess.{read_at, write_at}, Attestation.{CallItem, KeptWrite, DecisionWrite, DerivedKeyWrite, RegionRead, InnerDigestWrite, MacWrite, call_item, item_access, item_pc, bounds_read, decision_read, region_words, region_place, written_word, word_of_bytes, is_return, word_passed}}
 use Rattle.part_definitions.proofs.CallItems.{item_until_decision}
-use Rattle.bus_signals.specs.declared.bounds.Bounds.{Bounds}
-use Rattle.swatt_rom.specs.RomCall.{call_access, next_word}
-use Rattle.swatt_rom.specs.RequestWords.{read_place}
-use Rattle.swatt_rom.specs.Phase.{PhaseStandsFor, HasDecided}
-use Rattle.swatt_rom.specs.declared.decided.Decided.{Decided}
-use Rattle.hmac_core.specs.Hash.{Hash}
-use Rattle.hmac_core.specs.declared.running_hmac.Hmac.{Hmac}
-use Rattle.swatt_rom.specs.declared.region_words.RegionWords.{RegionWords}
-use Rattle.swatt_rom.specs.declared.request_words.RequestWords.{RequestWords}
-use Rattle.swatt_rom.specs.declared.phase.Phase.{Phase}
-use Rattle.swatt_rom.specs.declared.phase.Phase.TheVariants.{ReadsRequest, WritesHighWord, WritesLowWord, WritesDecision, WritesDerivedKey, ReadsRegion, WritesInnerDigest, WritesMac}
-use Rattle.swatt_rom.proofs.WordsPassed.{region_in}
-use Rattle.swatt_rom.proofs.Items.{item_after-request, item_after-high, item_after-low, item_after-decision, item_after-derived_key, item_after-region, item_after-inner_digest, item_after-mac}
+use Rattle.swatt_rom.specs.{RomCall.{call_access, next_word}, RequestWords.read_place, Phase.{PhaseStandsFor, HasDecided}, declared.{decided.Decided.Decided, region_words.RegionWords.RegionWords, request_words.RequestWords.RequestWords, phase.Phase.{Phase, TheVariants.{ReadsRequest, WritesHighWord, WritesLowWord, WritesDecision, WritesDerivedKey, ReadsRegion, WritesInnerDigest, WritesMac}}}}
+use Rattle.hmac_core.specs.{Hash.Hash, declared.running_hmac.Hmac.Hmac}
+use Rattle.swatt_rom.proofs.{WordsPassed.region_in, Items.{item_after-request, item_after-high, item_after-low, item_after-decision, item_after-derived_key, item_after-region, item_after-inner_digest, item_after-mac}}
 
 -- the item of a phase
 abbrev pub item_of : {D : Type 0} → Phase D → CallItem

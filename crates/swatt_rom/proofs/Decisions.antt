@@ -2,8 +2,7 @@
 use Rattle.std.proofs.Common.{◌≡◌, ◌+◌, ◌*◌, ◌∷◌, [], ℕ, false, not, List, length, ap, sym, arith}
 use Rattle.std.specs.Prelude.{nat_le, if◌then◌else◌, slice_index}
 use Rattle.std.specs.Str.{bytes_eq}
-use Rattle.part_definitions.specs.Metadata.{counter_in, token_in, little_endian}
-use Rattle.part_definitions.specs.Request.{request_decision, right_token}
+use Rattle.part_definitions.specs.{Metadata.{counter_in, token_in, little_endian}, Request.{request_decision, right_token}}
 
 pub token_differs : (digest : List ℕ → List ℕ) (key metadata kept : List ℕ)
     → bytes_eq (token_in metadata) (right_token digest key metadata) ≡ false

@@ -1,8 +1,7 @@
 -- The accesses of a call, by the number of words that passed.
 use Rattle.std.proofs.Common.{◌≡◌, ◌<◌, ◌+◌, ℕ, arith}
 use Rattle.std.proofs.lemmas.Bool.Decides.{nat_tests}
-use Rattle.part_definitions.specs.Attestation.{KeptWrite, DecisionWrite, DerivedKeyWrite, RegionRead, InnerDigestWrite, MacWrite}
-use Rattle.part_definitions.specs.Request.{ATTESTS}
+use Rattle.part_definitions.specs.{Attestation.{KeptWrite, DecisionWrite, DerivedKeyWrite, RegionRead, InnerDigestWrite, MacWrite}, Request.ATTESTS}
 use Rattle.part_definitions.proofs.CallItems.{item_after, item_after-is, item_until_decision}
 
 pub item_after-request : (region decision count : ℕ) → count < 77

@@ -1,8 +1,6 @@
 -- Bounds that are valid are even and in order.
 use Rattle.std.proofs.Common.{◌≡◌, ◌≤◌, ◌%◌, true}
-use Rattle.bus_signals.specs.declared.bounds.Bounds.{Bounds}
-use Rattle.bus_signals.specs.Bounds.{are_valid}
-use Rattle.bus_signals.specs.Map.{metadata_region}
+use Rattle.bus_signals.specs.{declared.bounds.Bounds.Bounds, Bounds.are_valid, Map.metadata_region}
 use Rattle.bus_signals.proofs.ValidRange.{are_valid-ranges}
 
 pub executable_ordered :

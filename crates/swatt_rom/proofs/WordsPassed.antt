@@ -2,8 +2,7 @@
 use Rattle.std.proofs.Common.{◌≡◌, ◌<◌, ◌≤◌, ◌+◌, ◌++◌, ◌∷◌, ◌∙◌, [], ℕ, List, length, length-append, take, drop, ap, sym, arith}
 use Rattle.std.proofs.Math.ListN.{get_or-append}
 use Rattle.std.proofs.lemmas.List.{take-append-le, drop-append-le, take_all, drop_all, length-drop}
-use Rattle.part_definitions.specs.Attestation.{bounds_read, region_words, bytes_of_words, key_read, metadata_read, region_read, kept_read, decision_read, decision_in, counter_word, metadata_word, derived_key, call_key, inner_in, tag_in}
-use Rattle.part_definitions.specs.Request.{ATTESTS}
+use Rattle.part_definitions.specs.{Attestation.{bounds_read, region_words, bytes_of_words, key_read, metadata_read, region_read, kept_read, decision_read, decision_in, counter_word, metadata_word, derived_key, call_key, inner_in, tag_in}, Request.ATTESTS}
 use Rattle.std.specs.Prelude.{◌==◌, slice_index, if◌then◌else◌}
 use Rattle.swatt_rom.proofs.WordBytes.{bytes_of_words-append}
 

@@ -2,18 +2,9 @@
 -- running one has taken.
 use Rattle.std.specs.Prelude.{◌≡◌, ◌==◌, ◌++◌, ◌+◌, ◌*◌, ℕ, List, length, slice_index, if◌then◌else◌, Option, None, Some}
 use Rattle.bus_signals.specs.declared.bounds.Bounds.{Bounds}
-use Rattle.hmac_core.specs.Hash.{Hash}
-use Rattle.hmac_core.specs.Hmac.{HmacStandsFor}
-use Rattle.hmac_core.specs.declared.running_hmac.Hmac.{Hmac}
-use Rattle.part_definitions.specs.Attestation.{REQUEST_WORDS, DIGEST_WORDS, BEFORE_REGION, bounds_read, decision_read, region_words, metadata_read, region_read, call_key, decision_in, counter_word, inner_in, tag_in}
-use Rattle.part_definitions.specs.Hmac.{Digest}
-use Rattle.part_definitions.specs.Request.{ATTESTS}
-use Rattle.swatt_rom.specs.DigestWords.{WritesDigest}
-use Rattle.swatt_rom.specs.declared.decided.Decided.{Decided}
-use Rattle.swatt_rom.specs.declared.digest_words.DigestWords.{DigestWords}
-use Rattle.swatt_rom.specs.declared.region_words.RegionWords.{RegionWords}
-use Rattle.swatt_rom.specs.declared.phase.Phase.{Phase}
-use Rattle.swatt_rom.specs.declared.phase.Phase.TheVariants.{ReadsRequest, WritesHighWord, WritesLowWord, WritesDecision, WritesDerivedKey, ReadsRegion, WritesInnerDigest, WritesMac}
+use Rattle.hmac_core.specs.{Hash.Hash, Hmac.HmacStandsFor, declared.running_hmac.Hmac.Hmac}
+use Rattle.part_definitions.specs.{Attestation.{REQUEST_WORDS, DIGEST_WORDS, BEFORE_REGION, bounds_read, decision_read, region_words, metadata_read, region_read, call_key, decision_in, counter_word, inner_in, tag_in}, Hmac.Digest, Request.ATTESTS}
+use Rattle.swatt_rom.specs.{DigestWords.WritesDigest, declared.{decided.Decided.Decided, digest_words.DigestWords.DigestWords, region_words.RegionWords.RegionWords, phase.Phase.{Phase, TheVariants.{ReadsRequest, WritesHighWord, WritesLowWord, WritesDecision, WritesDerivedKey, ReadsRegion, WritesInnerDigest, WritesMac}}}}
 
 -- how many words pass before the derived key is written: also the counter and the decision
 abbrev pub BEFORE_DERIVED_KEY : ℕ

@@ -1,10 +1,7 @@
 -- Which calls the engine stands for. `hash` is the digest: its function, and the bytes that a
 -- running one has taken.
 use Rattle.hmac_core.specs.Hash.{Hash}
-use Rattle.swatt_rom.specs.RomCall.{RomCall}
-use Rattle.swatt_rom.specs.State.{StateStandsFor}
-use Rattle.swatt_rom.specs.declared.state.State.TheVariants.{Idle}
-use Rattle.swatt_rom.specs.declared.rom.Rom.{Rom}
+use Rattle.swatt_rom.specs.{RomCall.RomCall, State.StateStandsFor, declared.{state.State.TheVariants.Idle, rom.Rom.Rom}}
 
 abbrev pub RomStandsFor :
     {D : Type 0} → Hash D → Rom D → RomCall → Type 0

@@ -2,10 +2,7 @@
 -- one has taken.
 use Rattle.std.specs.Prelude.{◌≡◌}
 use Rattle.hmac_core.specs.Hash.{Hash}
-use Rattle.swatt_rom.specs.RomCall.{RomCall, NoCall, InCall, AfterCall}
-use Rattle.swatt_rom.specs.Phase.{PhaseStandsFor, IsBeforeReturn}
-use Rattle.swatt_rom.specs.declared.state.State.{State}
-use Rattle.swatt_rom.specs.declared.state.State.TheVariants.{Idle, Calls, Returns, Leaves}
+use Rattle.swatt_rom.specs.{RomCall.{RomCall, NoCall, InCall, AfterCall}, Phase.{PhaseStandsFor, IsBeforeReturn}, declared.state.State.{State, TheVariants.{Idle, Calls, Returns, Leaves}}}
 
 abbrev pub StateStandsFor :
     {D : Type 0} → Hash D → State D → RomCall → Type 0

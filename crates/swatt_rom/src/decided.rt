@@ -1,7 +1,5 @@
 ghost use Rattle.std.specs.Prelude.{◌≡◌, ◌≤◌, length, slice_index};
-ghost use Rattle.part_definitions.specs.Attestation.{decision_in, counter_word};
-ghost use Rattle.part_definitions.specs.Metadata.{challenge_in, counter_in, token_in, little_endian};
-ghost use Rattle.part_definitions.specs.Request.{request_decision, right_token};
+ghost use Rattle.part_definitions.specs.{Attestation.{decision_in, counter_word}, Metadata.{challenge_in, counter_in, token_in, little_endian}, Request.{request_decision, right_token}};
 
 use crate::request_words::{REQUEST_WORDS, kept_bytes, key_bytes, metadata_bytes};
 use hmac_core::{Digest32, request_token, same_bytes};

@@ -1,8 +1,7 @@
 ghost use Rattle.std.specs.Prelude.{◌≡◌, ◌<◌, ◌≤◌, ◌+◌, ◌*◌, ◌%◌, ◌^◌, ◌↔◌, IsNone, IsSome};
 ghost use Rattle.word_arith.specs.declared.size.Size.TheVariants.{Word};
 ghost use Rattle.bus_signals.specs.Access.{IsFormed};
-ghost use Rattle.part_definitions.specs.BusAccess.{write_at};
-ghost use Rattle.part_definitions.specs.Attestation.{word_of_bytes};
+ghost use Rattle.part_definitions.specs.{BusAccess.write_at, Attestation.word_of_bytes};
 
 use bus_signals::Access;
 use word_arith::Size;

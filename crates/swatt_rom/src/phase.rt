@@ -1,8 +1,6 @@
 ghost use Rattle.std.specs.Prelude.{◌≡◌, ◌≤◌, ◌++◌, ◌∷◌, [], ℕ, List, length};
-ghost use Rattle.part_definitions.specs.Request.{ATTESTS};
+ghost use Rattle.part_definitions.specs.{Request.ATTESTS, Part.Answers, Attestation.{BEFORE_REGION, call_item, item_pc, bounds_read, decision_read, derived_key, call_key, metadata_read}};
 ghost use Rattle.bus_signals.specs.Access.{IsFormed};
-ghost use Rattle.part_definitions.specs.Part.{Answers};
-ghost use Rattle.part_definitions.specs.Attestation.{BEFORE_REGION, call_item, item_pc, bounds_read, decision_read, derived_key, call_key, metadata_read};
 ghost use Rattle.hmac_core.specs.Hmac.{HmacStandsFor};
 ghost use Rattle.swatt_rom.specs.RomCall.{call_access, next_word};
 

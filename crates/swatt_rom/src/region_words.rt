@@ -1,9 +1,7 @@
 ghost use Rattle.std.specs.Prelude.{◌≡◌, ◌<◌, ◌≤◌, ◌+◌, ◌%◌, ◌↔◌, true, IsNone, IsSome, IfSome};
 ghost use Rattle.word_arith.specs.declared.size.Size.TheVariants.{Word};
-ghost use Rattle.bus_signals.specs.Access.{IsFormed};
-ghost use Rattle.bus_signals.specs.Bounds.{are_valid};
-ghost use Rattle.part_definitions.specs.BusAccess.{read_at};
-ghost use Rattle.part_definitions.specs.Attestation.{words_between, region_words, region_place};
+ghost use Rattle.bus_signals.specs.{Access.IsFormed, Bounds.are_valid};
+ghost use Rattle.part_definitions.specs.{BusAccess.read_at, Attestation.{words_between, region_words, region_place}};
 
 use bus_signals::{Access, Bounds, valid};
 use word_arith::Size;

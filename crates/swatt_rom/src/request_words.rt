@@ -2,8 +2,7 @@ ghost use Rattle.std.specs.Prelude.{◌≡◌, ◌==◌, ◌<◌, ◌+◌, ◌++
 ghost use Rattle.word_arith.specs.declared.size.Size.TheVariants.{Word};
 ghost use Rattle.arrayvec.specs.ArrayVec.{array_vec_len};
 ghost use Rattle.bus_signals.specs.Access.{IsFormed};
-ghost use Rattle.part_definitions.specs.BusAccess.{read_at};
-ghost use Rattle.part_definitions.specs.Attestation.{key_read, metadata_read, kept_read};
+ghost use Rattle.part_definitions.specs.{BusAccess.read_at, Attestation.{key_read, metadata_read, kept_read}};
 
 use crate::word_bytes::bytes_of;
 use arrayvec::ArrayVec;

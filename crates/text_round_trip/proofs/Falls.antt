@@ -6,12 +6,8 @@ use Rattle.std.proofs.Math.Seq.{drop-append_seam, take-append_seam}
 use Rattle.std.proofs.lemmas.Bool.{ne_eqb, false≢true, and_parts}
 use Rattle.text_scan.specs.declared.fault_kind.FaultKind.{FaultKind}
 use Rattle.asm_text.specs.declared.piece.Piece.TheVariants as pieces
-use Rattle.asm_text.specs.declared.token.Token.{Token}
-use Rattle.asm_text.specs.declared.token.Token.TheVariants.{Here, Colon, Comma, Hash, Ampersand, At, Plus, Minus, Open, Close}
-use Rattle.asm_text.specs.Word.{is_word_character, ends_word}
-use Rattle.asm_text.specs.Token.{word_piece, piece_of, token_before, tokens_of}
-use Rattle.asm_text.proofs.Behind.{behind, behind-none}
-use Rattle.asm_text.proofs.TokenSteps.{left-blank, left-token}
+use Rattle.asm_text.specs.{declared.token.Token.{Token, TheVariants.{Here, Colon, Comma, Hash, Ampersand, At, Plus, Minus, Open, Close}}, Word.{is_word_character, ends_word}, Token.{word_piece, piece_of, token_before, tokens_of}}
+use Rattle.asm_text.proofs.{Behind.{behind, behind-none}, TokenSteps.{left-blank, left-token}}
 
 -- no word goes on there
 abbrev pub ends : List ℕ → Bool

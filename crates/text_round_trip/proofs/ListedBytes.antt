@@ -1,14 +1,11 @@
 -- The bytes of what stands at a place.
 use Rattle.std.proofs.Common.{◌≡◌, ◌∙◌, ap, sym, refl, subst, ℕ, zero, suc, ◌+◌, ◌*◌, ◌/◌, ◌%◌, arith, List, [], ◌∷◌, length, take, Option, Some, None}
 use Rattle.std.specs.Prelude.{flat_map}
-use Rattle.msp_asm.specs.Statement.{word_bytes}
+use Rattle.msp_asm.specs.{Statement.word_bytes, declared.item.Item.Item, Item.{word_of_bytes, item_at, item_size}}
 use Rattle.msp_asm.proofs.StatementSize.{length-word_bytes}
-use Rattle.msp_decode.specs.Completion.{extension_count, completion, words_of}
-use Rattle.msp_decode.specs.Law.{HeadsAreSpelled, WordsAreWritten}
+use Rattle.msp_decode.specs.{Completion.{extension_count, completion, words_of}, Law.{HeadsAreSpelled, WordsAreWritten}}
 use Rattle.mem_map.specs.ImagePlace.{IsImage}
-use Rattle.msp_asm.specs.declared.item.Item.{Item}
 use Rattle.msp_asm.specs.declared.item.Item.TheVariants as items
-use Rattle.msp_asm.specs.Item.{word_of_bytes, item_at, item_size}
 use Rattle.text_round_trip.specs.Listing.{AreAt}
 use Rattle.text_round_trip.proofs.ListedPlace.{item-holds, WordsAt}
 

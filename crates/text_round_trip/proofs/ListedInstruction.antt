@@ -2,44 +2,23 @@
 use Rattle.std.proofs.Common.{◌≡◌, ◌∙◌, ap, refl, ℕ, ◌+◌, ◌*◌, true, not, inl, inr, List, [], ◌∷◌, ◌++◌, append_assoc, ℤ, pos, Option, Some, None, Result, Ok, Err}
 use Rattle.std.specs.Prelude.{◌||◌, codes, flat_map}
 use Rattle.std.proofs.lemmas.Bool.{or_cases, false≢true}
-use Rattle.word_arith.specs.declared.op2.Op2.{Op2}
-use Rattle.word_arith.specs.declared.size.Size.{Size}
+use Rattle.word_arith.specs.{declared.{op2.Op2.Op2, size.Size.Size}}
 use Rattle.word_arith.specs.declared.size.Size.TheVariants as sizes
-use Rattle.msp_decode.specs.declared.one.One.{One as OneOp}
+use Rattle.msp_decode.specs.{declared.{one.One.One as OneOp, constant.Gen.Gen, source.Source.Source, dest.Dest.Dest, instr.Instr.{Instr, TheVariants.{Two, One}}}, Completion.{source_form, words_of}, Spelling.{has_form, has_size, takes_result, writes_operand}}
 use Rattle.msp_decode.specs.declared.one.One.TheVariants as one
-use Rattle.msp_decode.specs.declared.constant.Gen.{Gen}
-use Rattle.msp_decode.specs.declared.source.Source.{Source}
 use Rattle.msp_decode.specs.declared.source.Source.TheVariants as source
-use Rattle.msp_decode.specs.declared.dest.Dest.{Dest}
-use Rattle.msp_decode.specs.declared.instr.Instr.{Instr}
-use Rattle.msp_decode.specs.declared.instr.Instr.TheVariants.{Two, One}
-use Rattle.msp_decode.specs.Completion.{source_form, words_of}
-use Rattle.msp_decode.specs.Spelling.{has_form, has_size, takes_result, writes_operand}
 use Rattle.part_definitions.specs.AddressSum.{plus}
-use Rattle.text_scan.specs.declared.fault_kind.FaultKind.{FaultKind}
-use Rattle.text_scan.specs.Reader.{◌>>=◌}
+use Rattle.text_scan.specs.{declared.fault_kind.FaultKind.FaultKind, Reader.◌>>=◌}
 use Rattle.asm_text.specs.declared.body.Body.TheVariants as bodies
 use Rattle.asm_text.specs.declared.mnemonic.Mnemonic.TheVariants as mnemonics
-use Rattle.asm_text.specs.declared.token.Token.TheVariants.{Comma}
-use Rattle.asm_text.specs.Source.{line_statement}
-use Rattle.asm_text.specs.Form.{operand_form}
-use Rattle.asm_text.specs.Name.{op2_name}
-use Rattle.asm_text.specs.Statement.{fits}
+use Rattle.asm_text.specs.{declared.token.Token.TheVariants.Comma, Source.line_statement, Form.operand_form, Name.op2_name, Statement.fits}
 use Rattle.asm_text.specs.declared.form.Form.TheVariants as shapes
 use Rattle.asm_text.specs.declared.form.SourceRole.TheVariants as sources
 use Rattle.asm_text.specs.declared.form.DestRole.TheVariants as dests
-use Rattle.msp_asm.specs.Instruction.{Operands, instruction_of, one_of, source_words}
-use Rattle.msp_asm.specs.Operand.{expr_in, source_of, dest_of, constant_of, immediate, immediate_word}
-use Rattle.msp_asm.specs.Statement.{word_bytes}
-use Rattle.msp_asm.specs.Value.{Scope, value}
+use Rattle.msp_asm.specs.{Instruction.{Operands, instruction_of, one_of, source_words}, Operand.{expr_in, source_of, dest_of, constant_of, immediate, immediate_word}, Statement.word_bytes, Value.{Scope, value}, ItemText.{size_suffix, source_text, dest_text}}
 use Rattle.msp_asm.specs.declared.item.Item.TheVariants as items
-use Rattle.msp_asm.specs.ItemText.{size_suffix, source_text, dest_text}
-use Rattle.text_round_trip.specs.Listing.{IsReadAs, source_again}
-use Rattle.text_round_trip.specs.Writable.{has_size as mnemonic_has_size}
-use Rattle.text_round_trip.proofs.Falls.{falls-then, falls-apart, comma-falls}
-use Rattle.text_round_trip.proofs.ListedOperand.{FitsSource, FitsDest, source_operand, dest_tokens, dest_operand, source-falls, dest-falls, source-read, dest-read, source-form, source-modified, dest-form, source-again, dest-again}
-use Rattle.text_round_trip.proofs.Operands.{no_colon-first, one-read, two-read}
-use Rattle.text_round_trip.proofs.Words.{mnemonic-operation, statement-read}
+use Rattle.text_round_trip.specs.{Listing.{IsReadAs, source_again}, Writable.has_size as mnemonic_has_size}
+use Rattle.text_round_trip.proofs.{Falls.{falls-then, falls-apart, comma-falls}, ListedOperand.{FitsSource, FitsDest, source_operand, dest_tokens, dest_operand, source-falls, dest-falls, source-read, dest-read, source-form, source-modified, dest-form, source-again, dest-again}, Operands.{no_colon-first, one-read, two-read}, Words.{mnemonic-operation, statement-read}}
 
 -- the sizes that there are
 two-sized : (op : Op2) (size : Size) → mnemonic_has_size (mnemonics.Two op) size ≡ true

@@ -6,21 +6,13 @@ use Rattle.std.proofs.Math.IntN.{+ℤ_idr}
 use Rattle.word_arith.specs.declared.size.Size.TheVariants as sizes
 use Rattle.msp_decode.specs.declared.instr.Instr.TheVariants.{Reti}
 use Rattle.printed_lines.specs.Line.{byte_digits}
-use Rattle.text_scan.specs.declared.fault_kind.FaultKind.{FaultKind}
-use Rattle.text_scan.specs.Reader.{◌>>=◌}
-use Rattle.asm_text.specs.declared.body.Body.{Body}
+use Rattle.text_scan.specs.{declared.fault_kind.FaultKind.FaultKind, Reader.◌>>=◌}
+use Rattle.asm_text.specs.{declared.{body.Body.Body, mnemonic.Mnemonic.TheVariants.Reti as RetiMnemonic, operand.Operand.TheVariants.Symbolic}, Token.word_token}
 use Rattle.asm_text.specs.declared.body.Body.TheVariants as bodies
-use Rattle.asm_text.specs.declared.mnemonic.Mnemonic.TheVariants.{Reti as RetiMnemonic}
-use Rattle.asm_text.specs.declared.operand.Operand.TheVariants.{Symbolic}
-use Rattle.asm_text.specs.Token.{word_token}
 use Rattle.msp_asm.specs.Statement.{all_bytes}
 use Rattle.msp_asm.specs.declared.item.Item.TheVariants as items
 use Rattle.text_round_trip.specs.Listing.{IsReadAs}
-use Rattle.text_round_trip.proofs.ListedOperand.{number_expr, word-falls}
-use Rattle.text_round_trip.proofs.Numerals.{number-falls, byte_text-number}
-use Rattle.text_round_trip.proofs.Operands.{one-read}
-use Rattle.text_round_trip.proofs.Words.{mnemonic-operation, without_label, operation-falls, no_label, operation-read, line-read, statement-read}
-use Rattle.text_round_trip.proofs.ListedJump.{number-operand}
+use Rattle.text_round_trip.proofs.{ListedOperand.{number_expr, word-falls}, Numerals.{number-falls, byte_text-number}, Operands.one-read, Words.{mnemonic-operation, without_label, operation-falls, no_label, operation-read, line-read, statement-read}, ListedJump.number-operand}
 
 pub reti-again : (place : ℕ) → IsReadAs place (items.Instruction Reti)
 reti-again place =

@@ -4,29 +4,18 @@ use Rattle.std.specs.Prelude.{if◌then◌else◌, neg_ℤ}
 use Rattle.std.proofs.lemmas.Bool.{le-leb, lt-leb, le-ltb, leb-true, leb-false, lt-ltb, ltb-true, ltb-false, eq-eqb}
 use Rattle.std.proofs.Math.IntN.{+ℤ_idr}
 use Rattle.word_arith.specs.declared.size.Size.TheVariants as sizes
-use Rattle.msp_decode.specs.declared.cond.Cond.{Cond}
-use Rattle.msp_decode.specs.declared.instr.Instr.TheVariants.{Jump}
-use Rattle.msp_decode.specs.Spelling.{has_range}
-use Rattle.part_definitions.specs.AddressSum.{plus}
-use Rattle.part_definitions.specs.Instruction.{jump_target}
-use Rattle.text_scan.specs.declared.fault_kind.FaultKind.TheVariants.{Range}
-use Rattle.text_scan.specs.Reader.{◌>>=◌}
+use Rattle.msp_decode.specs.{declared.{cond.Cond.Cond, instr.Instr.TheVariants.Jump}, Spelling.has_range}
+use Rattle.part_definitions.specs.{AddressSum.plus, Instruction.jump_target}
+use Rattle.text_scan.specs.{declared.fault_kind.FaultKind.TheVariants.Range, Reader.◌>>=◌}
 use Rattle.asm_text.specs.declared.body.Body.TheVariants as bodies
 use Rattle.asm_text.specs.declared.mnemonic.Mnemonic.TheVariants as mnemonics
-use Rattle.asm_text.specs.declared.operand.Operand.TheVariants.{Symbolic}
+use Rattle.asm_text.specs.{declared.{operand.Operand.TheVariants.Symbolic, token.Token.TheVariants.Number}, Operand.terms_of, Name.jump_name}
 use Rattle.asm_text.specs.declared.operation.Operation.TheVariants as operations
-use Rattle.asm_text.specs.declared.token.Token.TheVariants.{Number}
-use Rattle.asm_text.specs.Operand.{terms_of}
 use Rattle.asm_text.specs.declared.form.Form.TheVariants as shapes
-use Rattle.asm_text.specs.Name.{jump_name}
-use Rattle.msp_asm.specs.Instruction.{instruction_of, half_way, jump_of}
-use Rattle.msp_asm.specs.Value.{Scope, address_of}
+use Rattle.msp_asm.specs.{Instruction.{instruction_of, half_way, jump_of}, Value.{Scope, address_of}}
 use Rattle.msp_asm.specs.declared.item.Item.TheVariants as items
 use Rattle.text_round_trip.specs.Listing.{IsReadAs, stays_within}
-use Rattle.text_round_trip.proofs.ListedOperand.{number_expr, word-falls}
-use Rattle.text_round_trip.proofs.Operands.{IsOperandOf, one-read}
-use Rattle.text_round_trip.proofs.Words.{IsOperation, mnemonic-operation, statement-read}
-use Rattle.text_round_trip.proofs.ListedInstruction.{bytes_read}
+use Rattle.text_round_trip.proofs.{ListedOperand.{number_expr, word-falls}, Operands.{IsOperandOf, one-read}, Words.{IsOperation, mnemonic-operation, statement-read}, ListedInstruction.bytes_read}
 
 -- a lone number
 

@@ -5,32 +5,15 @@ use Rattle.std.proofs.lemmas.Bool.{le-leb, false≢true}
 use Rattle.std.proofs.Math.IntN.{+ℤ_idr}
 use Rattle.hex.specs.Hex.{encode_with}
 use Rattle.word_arith.specs.declared.size.Size.{Size}
-use Rattle.msp_decode.specs.declared.reg.Reg.{Reg}
-use Rattle.msp_decode.specs.declared.reg.Reg.TheVariants.{R2, R3}
-use Rattle.msp_decode.specs.declared.constant.Gen.{Gen}
+use Rattle.msp_decode.specs.{declared.{reg.Reg.{Reg, TheVariants.{R2, R3}}, constant.Gen.Gen, source.Source.Source, dest.Dest.Dest}, Completion.source_form, Spelling.{has_form, takes_result}}
 use Rattle.msp_decode.specs.declared.constant.Gen.TheVariants as gen
-use Rattle.msp_decode.specs.declared.source.Source.{Source}
 use Rattle.msp_decode.specs.declared.source.Source.TheVariants as source
-use Rattle.msp_decode.specs.declared.dest.Dest.{Dest}
 use Rattle.msp_decode.specs.declared.dest.Dest.TheVariants as dest
-use Rattle.msp_decode.specs.Completion.{source_form}
-use Rattle.msp_decode.specs.Spelling.{has_form, takes_result}
-use Rattle.asm_text.specs.declared.operand.Operand.{Operand}
-use Rattle.asm_text.specs.declared.operand.Operand.TheVariants.{Reg as RegOperand, Imm, Abs, Indexed, Indirect, IndirectInc}
+use Rattle.asm_text.specs.{declared.{operand.Operand.{Operand, TheVariants.{Reg as RegOperand, Imm, Abs, Indexed, Indirect, IndirectInc}}, token.Token.{Token, TheVariants.{Number, Register, Hash, Ampersand, At, Plus, Minus, Open, Close}}}, Expr.SignedTerm, Operand.terms_of, Statement.{is_source, is_modified, is_destination}}
 use Rattle.asm_text.specs.declared.term.Term.TheVariants as terms
-use Rattle.asm_text.specs.declared.token.Token.{Token}
-use Rattle.asm_text.specs.declared.token.Token.TheVariants.{Number, Register, Hash, Ampersand, At, Plus, Minus, Open, Close}
-use Rattle.asm_text.specs.Expr.{SignedTerm}
-use Rattle.asm_text.specs.Operand.{terms_of}
-use Rattle.asm_text.specs.Statement.{is_source, is_modified, is_destination}
-use Rattle.msp_asm.specs.Operand.{expr_in, source_of, dest_of}
-use Rattle.msp_asm.specs.Value.{Scope, value as value_of}
-use Rattle.msp_asm.specs.ItemText.{word_text, indexed_text, constant_text, source_text, dest_text}
+use Rattle.msp_asm.specs.{Operand.{expr_in, source_of, dest_of}, Value.{Scope, value as value_of}, ItemText.{word_text, indexed_text, constant_text, source_text, dest_text}}
 use Rattle.text_round_trip.specs.Listing.{source_again}
-use Rattle.text_round_trip.proofs.Falls.{FallsInto, falls-then, falls-apart, falls-into, hash-falls, ampersand-falls, at-falls, plus-falls, minus-falls, open-falls, close-falls}
-use Rattle.text_round_trip.proofs.Numerals.{number-falls, word_text-number}
-use Rattle.text_round_trip.proofs.Operands.{IsOperandOf}
-use Rattle.text_round_trip.proofs.Words.{register-falls}
+use Rattle.text_round_trip.proofs.{Falls.{FallsInto, falls-then, falls-apart, falls-into, hash-falls, ampersand-falls, at-falls, plus-falls, minus-falls, open-falls, close-falls}, Numerals.{number-falls, word_text-number}, Operands.IsOperandOf, Words.register-falls}
 
 -- the expression of a number
 abbrev pub number_expr : ℕ → List SignedTerm

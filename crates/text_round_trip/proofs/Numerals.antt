@@ -15,9 +15,7 @@ use Rattle.std.proofs.lemmas.Slice.Eq.{bytes_eq-Decides}
 use Rattle.std.proofs.lemmas.Str.Parse.{digit_from_value}
 use Rattle.hex.specs.Hex.{lower_digits, encode_with}
 use Rattle.printed_lines.specs.Line.{byte_digits}
-use Rattle.asm_text.specs.declared.token.Token.TheVariants.{Number}
-use Rattle.asm_text.specs.Word.{is_word_character, is_name_character, small_number, numeral, number_of}
-use Rattle.asm_text.specs.Token.{number_piece, word_piece}
+use Rattle.asm_text.specs.{declared.token.Token.TheVariants.Number, Word.{is_word_character, is_name_character, small_number, numeral, number_of}, Token.{number_piece, word_piece}}
 use Rattle.msp_asm.specs.ItemText.{word_text}
 use Rattle.text_round_trip.proofs.Falls.{FallsInto, word-falls}
 

@@ -6,12 +6,8 @@ use Rattle.std.proofs.lemmas.Bool.{and_parts}
 use borrow.Author.Tests.{not-true}
 use Rattle.std.proofs.lemmas.List.Sums.{AllPass-from_list_all}
 use Rattle.std.proofs.lemmas.List.Splits.{slice_split_none, slice_split_at}
-use Rattle.text_scan.specs.declared.fault_kind.FaultKind.{FaultKind}
-use Rattle.text_scan.specs.Reader.{◌>>=◌}
-use Rattle.asm_text.specs.declared.operand.Operand.{Operand}
-use Rattle.asm_text.specs.declared.token.Token.{Token}
-use Rattle.asm_text.specs.declared.token.Token.TheVariants.{Comma}
-use Rattle.asm_text.specs.Operand.{is_comma, parts_of, operand_of, operands_of, all_of}
+use Rattle.text_scan.specs.{declared.fault_kind.FaultKind.FaultKind, Reader.◌>>=◌}
+use Rattle.asm_text.specs.{declared.{operand.Operand.Operand, token.Token.{Token, TheVariants.Comma}}, Operand.{is_comma, parts_of, operand_of, operands_of, all_of}}
 use Rattle.text_round_trip.proofs.Words.{begins_with_colon}
 
 -- tokens between commas

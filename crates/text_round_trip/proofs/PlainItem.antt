@@ -2,29 +2,16 @@
 use Rattle.std.proofs.Common.{◌≡◌, ◌∙◌, ap, sym, refl, ℕ, ◌+◌, ◌*◌, arith, Bool, true, false, List, length, length-append, ℤ, pos, Option, Some, None, Result, Ok, Err}
 use Rattle.std.specs.Prelude.{◌&&◌, nat_le, flat_map, is_none, if◌then◌else◌, IsTrue, ◌↔◌}
 use Rattle.std.proofs.lemmas.Bool.{and_parts, false≢true}
-use Rattle.word_arith.specs.declared.op2.Op2.{Op2}
-use Rattle.msp_decode.specs.declared.dest.Dest.{Dest}
-use Rattle.msp_decode.specs.declared.one.One.{One as OneOp}
-use Rattle.msp_decode.specs.declared.cond.Cond.{Cond}
-use Rattle.text_scan.specs.declared.fault_kind.FaultKind.{FaultKind}
-use Rattle.text_scan.specs.declared.fault_kind.FaultKind.TheVariants.{Range}
-use Rattle.text_scan.specs.Reader.{◌>>=◌}
-use Rattle.msp_decode.specs.declared.constant.Gen.{Gen}
-use Rattle.msp_decode.specs.declared.instr.Instr.{Instr}
+use Rattle.word_arith.specs.{declared.{op2.Op2.Op2, size.Size.Size}}
+use Rattle.msp_decode.specs.{declared.{dest.Dest.Dest, one.One.One as OneOp, cond.Cond.Cond, constant.Gen.Gen, instr.Instr.Instr, source.Source.Source}, Completion.{words_of, source_words, dest_words}, Law.{HeadsAreSpelled, WordsAreWritten}}
+use Rattle.text_scan.specs.{declared.fault_kind.FaultKind.{FaultKind, TheVariants.Range}, Reader.◌>>=◌}
 use Rattle.msp_decode.specs.declared.instr.Instr.TheVariants as instrs
-use Rattle.msp_decode.specs.declared.source.Source.{Source}
 use Rattle.msp_decode.specs.declared.source.Source.TheVariants as source
-use Rattle.word_arith.specs.declared.size.Size.{Size}
 use Rattle.word_arith.specs.declared.size.Size.TheVariants as sizes
-use Rattle.msp_asm.specs.Operand.{all_ones, constant_of, immediate}
-use Rattle.msp_asm.specs.Statement.{word_bytes}
+use Rattle.msp_asm.specs.{Operand.{all_ones, constant_of, immediate}, Statement.word_bytes, declared.item.Item.Item, Item.item_at}
 use Rattle.msp_asm.proofs.StatementSize.{length-word_bytes}
-use Rattle.msp_decode.specs.Completion.{words_of, source_words, dest_words}
-use Rattle.msp_decode.specs.Law.{HeadsAreSpelled, WordsAreWritten}
 use Rattle.mem_map.specs.ImagePlace.{IsImage}
-use Rattle.msp_asm.specs.declared.item.Item.{Item}
 use Rattle.msp_asm.specs.declared.item.Item.TheVariants as items
-use Rattle.msp_asm.specs.Item.{item_at}
 use Rattle.text_round_trip.specs.Listing.{source_again, stays_within, instr_again, bytes_again, is_plain_source, is_plain_instr, is_plain, AreSameBytes}
 use Rattle.text_round_trip.proofs.ListedBytes.{item_bytes, item-bytes}
 

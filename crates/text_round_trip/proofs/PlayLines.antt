@@ -2,34 +2,16 @@
 use Rattle.std.proofs.Common.{◌∙◌, ℕ, ◌%◌, ◌<◌, Bool, true, false, List, [], ◌∷◌, ◌++◌, Option, Some, None, IfSome, Ok, length, append-nil, ap, subst, arith}
 use Rattle.std.specs.Prelude.{◌==◌, ◌^◌, if◌then◌else◌}
 use Rattle.std.specs.Option.{option_to_list}
-use Rattle.bus_signals.specs.declared.access.Access.{Access}
-use Rattle.bus_signals.specs.declared.access.Access.TheVariants.{Write}
-use Rattle.bus_signals.specs.declared.bus_record.BusRecord.{BusRecord}
-use Rattle.bus_signals.specs.declared.rule.Rule.{Rule}
-use Rattle.bus_signals.specs.Report.{ReportFields}
-use Rattle.bus_signals.specs.SeenRecord.{SeenHistory}
-use Rattle.part_definitions.specs.Request.{ATTESTS}
-use Rattle.part_definitions.specs.Serial.{SERIAL_SEND}
-use Rattle.part_definitions.specs.PeripheralRegister.{covers}
-use Rattle.bus_signals.specs.Address.{Bytes, Contents}
-use Rattle.part_definitions.specs.Hmac.{Digest}
-use Rattle.device_trace.specs.Play.{Play}
-use Rattle.device_trace.specs.Logs.{Logs, exec_of, logged_byte}
-use Rattle.device_trace.specs.Progress.{next_pc_of}
-use Rattle.device_trace.specs.Start.{Start, with_key}
-use Rattle.device_trace.specs.Step.{next_record}
+use Rattle.bus_signals.specs.{declared.{access.Access.{Access, TheVariants.Write}, bus_record.BusRecord.BusRecord, rule.Rule.Rule}, Report.ReportFields, SeenRecord.SeenHistory, Address.{Bytes, Contents}}
+use Rattle.part_definitions.specs.{Request.ATTESTS, Serial.SERIAL_SEND, PeripheralRegister.covers, Hmac.Digest}
+use Rattle.device_trace.specs.{Play.Play, Logs.{Logs, exec_of, logged_byte}, Progress.next_pc_of, Start.{Start, with_key}, Step.next_record, Text.{byte_sent_by, byte_sent_in, report_of, report_where, report_in, denial_in, some_line, step_lines, lines_of, play_text, end_line_after}, Trace.logs_after}
 use Rattle.printed_lines.specs.Line.{sent_line, reset_line, report_line, denied_line}
-use Rattle.device_trace.specs.Text.{byte_sent_by, byte_sent_in, report_of, report_where, report_in, denial_in, some_line, step_lines, lines_of, play_text, end_line_after}
-use Rattle.device_trace.specs.Trace.{logs_after}
 use Rattle.mac_coverage.specs.Coverage.{IsDeviceKey, IsOfBytes}
-use Rattle.mac_coverage.proofs.MemoryBytes.{PowerOnBytes, byte_after-byte}
-use Rattle.mac_coverage.proofs.Words.{are_bytes}
+use Rattle.mac_coverage.proofs.{MemoryBytes.{PowerOnBytes, byte_after-byte}, Words.are_bytes}
 use Rattle.report_text.specs.ReadBack.{IsPrintable}
 use Rattle.report_text.proofs.ReadLines.{ReadsAs, reads-none, reads-both, reads-whole, reads-report, reads-sent, reads-reset, reads-denied, reads-end}
-use Rattle.text_round_trip.specs.PlayReports.{play_reports}
-use Rattle.text_round_trip.specs.PlayReadBack.{FitsItsLines, IsPlayReadBack}
-use Rattle.text_round_trip.proofs.Decision.{IsDenial, last_denial-is}
-use Rattle.text_round_trip.proofs.PrintableReport.{printable-report}
+use Rattle.text_round_trip.specs.{PlayReports.play_reports, PlayReadBack.{FitsItsLines, IsPlayReadBack}}
+use Rattle.text_round_trip.proofs.{Decision.{IsDenial, last_denial-is}, PrintableReport.printable-report}
 
 -- what is sent is a byte
 sent_if : (test : Bool) (number : ℕ)

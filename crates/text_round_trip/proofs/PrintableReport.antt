@@ -3,20 +3,11 @@ use Rattle.std.proofs.Common.{◌≡◌, ℕ, zero, suc, ◌+◌, ◌-◌, ◌*�
 use Rattle.std.specs.Prelude.{◌^◌, if◌then◌else◌, IsTrue}
 use Rattle.std.proofs.lemmas.Bool.{eq-eqb}
 use Rattle.hex.specs.Hex.{IsBytes}
-use Rattle.bus_signals.specs.declared.bounds.Bounds.{Bounds}
-use Rattle.bus_signals.specs.declared.version.Version.TheVariants.{Two}
-use Rattle.bus_signals.specs.Bounds.{are_valid}
-use Rattle.bus_signals.specs.Map.{metadata_region, mac_region}
-use Rattle.part_definitions.specs.Memory.{bytes_from}
-use Rattle.part_definitions.specs.Metadata.{bounds_in, counter_bytes, little_endian}
-use Rattle.part_definitions.specs.Region.{output_bytes}
+use Rattle.bus_signals.specs.{declared.{bounds.Bounds.Bounds, version.Version.TheVariants.Two}, Bounds.{are_valid, AreWords}, Map.{metadata_region, mac_region}}
+use Rattle.part_definitions.specs.{Memory.bytes_from, Metadata.{bounds_in, counter_bytes, little_endian}, Region.output_bytes}
 use Rattle.part_definitions.proofs.BytesFrom.{length-bytes_from}
-use Rattle.device_trace.specs.Logs.{Logs, logged_byte, logged_bounds}
-use Rattle.device_trace.specs.Start.{Start}
-use Rattle.device_trace.specs.Text.{report_of}
-use Rattle.bus_signals.specs.Bounds.{AreWords}
-use Rattle.report_text.specs.ReadBack.{IsBlock, IsPrintable}
-use Rattle.report_text.specs.ReportFile.{output_fits}
+use Rattle.device_trace.specs.{Logs.{Logs, logged_byte, logged_bounds}, Start.Start, Text.report_of}
+use Rattle.report_text.specs.{ReadBack.{IsBlock, IsPrintable}, ReportFile.output_fits}
 
 abbrev HoldsBytes : (ℕ → ℕ) → Type 0
 HoldsBytes bytes = (place : ℕ) → bytes place < 256

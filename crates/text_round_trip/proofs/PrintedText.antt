@@ -6,29 +6,11 @@ use Rattle.std.specs.Int.{is_in_range}
 use Rattle.std.specs.List.{list_all}
 use Rattle.std.proofs.lemmas.Bool.{and_parts, and_from, or_cases, le-leb, leb-true, ltb-true, eqb-true}
 use Rattle.std.proofs.lemmas.List.Folds.{list_all-append}
-use Rattle.asm_text.specs.Token.{is_text_character}
-use Rattle.asm_text.specs.Word.{is_word_character, is_name_character}
+use Rattle.asm_text.specs.{Token.is_text_character, Word.{is_word_character, is_name_character}, Name.{mnemonic_name, reg_name}, declared.{term.Term.{Term, TheVariants.{Number, Name, Here}}, operand.Operand.{Operand, TheVariants.{Reg, Imm, Abs, Indexed, Symbolic, Indirect, IndirectInc}}, body.Body.{Body, TheVariants.{Empty, Instr, Org, Word, Byte, Ascii, Equ}}, statement.Statement.Statement}, Expr.SignedTerm}
 use Rattle.msp_asm.specs.ItemText.{size_suffix}
-use Rattle.text_round_trip.specs.ReadBack.{AreNumerals}
-use Rattle.msp_decode.specs.declared.reg.Reg.{Reg as Register}
-use Rattle.msp_decode.specs.declared.reg.Reg.TheVariants.{R0}
-use Rattle.asm_text.specs.Name.{mnemonic_name, reg_name}
-use Rattle.asm_text.specs.declared.term.Term.{Term}
-use Rattle.asm_text.specs.declared.term.Term.TheVariants.{Number, Name, Here}
-use Rattle.asm_text.specs.declared.operand.Operand.{Operand}
-use Rattle.asm_text.specs.declared.operand.Operand.TheVariants.{Reg, Imm, Abs, Indexed, Symbolic, Indirect, IndirectInc}
-use Rattle.asm_text.specs.declared.body.Body.{Body}
-use Rattle.asm_text.specs.declared.body.Body.TheVariants.{Empty, Instr, Org, Word, Byte, Ascii, Equ}
-use Rattle.asm_text.specs.declared.statement.Statement.{Statement}
-use Rattle.asm_text.specs.Expr.{SignedTerm}
-use Rattle.text_round_trip.specs.StatementText.{Numerals, term_text, sign_text, more_text, expr_text, operand_text, more_operands_text, operands_text, operand_list, body_text, label_text, statement_text}
-use Rattle.text_round_trip.specs.Writable.{is_free_name, is_writable_term, is_writable_expr, is_writable_operand, is_none_or_writable, is_writable_body, is_free_label, is_writable}
-use Rattle.text_round_trip.proofs.Numerals.{number-is}
-use Rattle.text_round_trip.proofs.WrittenDirective.{symbolic-are}
-use Rattle.text_round_trip.proofs.WrittenInstruction.{instruction-parts}
-use Rattle.text_round_trip.proofs.Words.{mnemonic-operation}
-use Rattle.text_round_trip.proofs.WrittenExpr.{are_terms, terms-are, name-characters}
-use Rattle.text_round_trip.proofs.WrittenStatement.{are_operands}
+use Rattle.text_round_trip.specs.{ReadBack.AreNumerals, StatementText.{Numerals, term_text, sign_text, more_text, expr_text, operand_text, more_operands_text, operands_text, operand_list, body_text, label_text, statement_text}, Writable.{is_free_name, is_writable_term, is_writable_expr, is_writable_operand, is_none_or_writable, is_writable_body, is_free_label, is_writable}}
+use Rattle.msp_decode.specs.{declared.reg.Reg.{Reg as Register, TheVariants.R0}}
+use Rattle.text_round_trip.proofs.{Numerals.number-is, WrittenDirective.symbolic-are, WrittenInstruction.instruction-parts, Words.mnemonic-operation, WrittenExpr.{are_terms, terms-are, name-characters}, WrittenStatement.are_operands}
 
 -- from a space (32) to a tilde (126)
 abbrev pub is_printed : ℕ → Bool

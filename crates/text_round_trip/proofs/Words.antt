@@ -9,25 +9,12 @@ use Rattle.word_arith.specs.declared.size.Size.{Size}
 use Rattle.word_arith.specs.declared.size.Size.TheVariants as sizes
 use Rattle.msp_decode.specs.declared.one.One.TheVariants as one
 use Rattle.msp_decode.specs.declared.cond.Cond.TheVariants as cond
-use Rattle.msp_decode.specs.declared.reg.Reg.{Reg}
-use Rattle.msp_decode.specs.declared.reg.Reg.TheVariants.{R0}
-use Rattle.text_scan.specs.declared.fault_kind.FaultKind.{FaultKind}
-use Rattle.text_scan.specs.Reader.{◌>>=◌}
-use Rattle.asm_text.specs.declared.body.Body.{Body}
+use Rattle.msp_decode.specs.{declared.reg.Reg.{Reg, TheVariants.R0}}
+use Rattle.text_scan.specs.{declared.fault_kind.FaultKind.FaultKind, Reader.◌>>=◌}
+use Rattle.asm_text.specs.{declared.{body.Body.Body, mnemonic.Mnemonic.Mnemonic, operand.Operand.Operand, operation.Operation.Operation, token.Token.{Token, TheVariants.{Register, Name, Colon}}}, Operand.operands_of, Source.{line_statement, statement_in_line}, Statement.{first_word, is_ascii_directive, statement_body, operation_body, body_of, labelled_body}, Token.{name_token, word_token, word_piece, tokens_behind, tokens_of}, Word.{is_word_character, is_name, lower_case, byte_form, word_form, operation_of}, Name.{mnemonic_name, reg_name, register_of}}
 use Rattle.asm_text.specs.declared.emulated.Emulated.TheVariants as emulated
-use Rattle.asm_text.specs.declared.mnemonic.Mnemonic.{Mnemonic}
 use Rattle.asm_text.specs.declared.mnemonic.Mnemonic.TheVariants as mnemonics
-use Rattle.asm_text.specs.declared.operand.Operand.{Operand}
-use Rattle.asm_text.specs.declared.operation.Operation.{Operation}
 use Rattle.asm_text.specs.declared.operation.Operation.TheVariants as operations
-use Rattle.asm_text.specs.declared.token.Token.{Token}
-use Rattle.asm_text.specs.declared.token.Token.TheVariants.{Register, Name, Colon}
-use Rattle.asm_text.specs.Operand.{operands_of}
-use Rattle.asm_text.specs.Source.{line_statement, statement_in_line}
-use Rattle.asm_text.specs.Statement.{first_word, is_ascii_directive, statement_body, operation_body, body_of, labelled_body}
-use Rattle.asm_text.specs.Token.{name_token, word_token, word_piece, tokens_behind, tokens_of}
-use Rattle.asm_text.specs.Word.{is_word_character, is_name, lower_case, byte_form, word_form, operation_of}
-use Rattle.asm_text.specs.Name.{mnemonic_name, reg_name, register_of}
 use Rattle.msp_asm.specs.ItemText.{size_suffix}
 use Rattle.text_round_trip.specs.Writable.{has_size}
 use Rattle.text_round_trip.proofs.Falls.{FallsInto, word-falls, falls-then, falls-apart, blank-falls}

@@ -1,13 +1,8 @@
 -- What stands behind a label is read back.
 use Rattle.std.proofs.Common.{◌≡◌, true}
-use Rattle.asm_text.specs.declared.body.Body.{Body}
-use Rattle.asm_text.specs.declared.body.Body.TheVariants.{Empty, Instr, Org, Word, Byte, Ascii, Equ}
-use Rattle.text_round_trip.specs.ReadBack.{AreNumerals}
-use Rattle.text_round_trip.specs.StatementText.{Numerals, body_text}
-use Rattle.text_round_trip.specs.Writable.{is_writable_body}
-use Rattle.text_round_trip.proofs.WrittenStatement.{IsBodyText}
-use Rattle.text_round_trip.proofs.WrittenInstruction.{instruction-parts, instruction-text}
-use Rattle.text_round_trip.proofs.WrittenDirective.{empty-text, org-text, words-text, bytes-text, ascii-text, equ-text}
+use Rattle.asm_text.specs.{declared.body.Body.{Body, TheVariants.{Empty, Instr, Org, Word, Byte, Ascii, Equ}}}
+use Rattle.text_round_trip.specs.{ReadBack.AreNumerals, StatementText.{Numerals, body_text}, Writable.is_writable_body}
+use Rattle.text_round_trip.proofs.{WrittenStatement.IsBodyText, WrittenInstruction.{instruction-parts, instruction-text}, WrittenDirective.{empty-text, org-text, words-text, bytes-text, ascii-text, equ-text}}
 
 pub body-written : (numerals : Numerals) → AreNumerals numerals → (body : Body)
     → is_writable_body body ≡ true → IsBodyText (body_text numerals body) body

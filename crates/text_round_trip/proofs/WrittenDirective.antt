@@ -4,26 +4,12 @@ use Rattle.std.specs.Prelude.{◌==◌, codes, map, slice_index, nat_lt, if◌th
 use Rattle.std.specs.List.{list_all, position_or_len}
 use Rattle.std.proofs.Math.Seq.{take-append_seam}
 use Rattle.std.proofs.lemmas.Bool.{and_parts, and_from, false≢true}
-use Rattle.text_scan.specs.declared.fault_kind.FaultKind.{FaultKind}
-use Rattle.text_scan.specs.Reader.{◌>>=◌}
-use Rattle.asm_text.specs.declared.body.Body.{Body}
-use Rattle.asm_text.specs.declared.body.Body.TheVariants.{Empty, Org, Word, Byte, Ascii, Equ}
-use Rattle.asm_text.specs.declared.operand.Operand.{Operand}
-use Rattle.asm_text.specs.declared.operand.Operand.TheVariants.{Symbolic}
-use Rattle.asm_text.specs.declared.operation.Operation.{Operation}
+use Rattle.text_scan.specs.{declared.fault_kind.FaultKind.FaultKind, Reader.◌>>=◌}
+use Rattle.asm_text.specs.{declared.{body.Body.{Body, TheVariants.{Empty, Org, Word, Byte, Ascii, Equ}}, operand.Operand.{Operand, TheVariants.Symbolic}, operation.Operation.Operation, term.Term.TheVariants.Name, token.Token.TheVariants.Text}, Expr.SignedTerm, Statement.{body_of, is_ascii_directive, all_exprs, exprs_of, operation_body, statement_body}, Token.{word_token, is_text_character, ends_text, piece_of}}
 use Rattle.asm_text.specs.declared.operation.Operation.TheVariants as operations
 use Rattle.asm_text.specs.declared.piece.Piece.TheVariants as pieces
-use Rattle.asm_text.specs.declared.term.Term.TheVariants.{Name}
-use Rattle.asm_text.specs.declared.token.Token.TheVariants.{Text}
-use Rattle.asm_text.specs.Expr.{SignedTerm}
-use Rattle.asm_text.specs.Statement.{body_of, is_ascii_directive, all_exprs, exprs_of, operation_body, statement_body}
-use Rattle.asm_text.specs.Token.{word_token, is_text_character, ends_text, piece_of}
-use Rattle.text_round_trip.specs.ReadBack.{AreNumerals}
-use Rattle.text_round_trip.specs.StatementText.{Numerals, operands_text, body_text}
-use Rattle.text_round_trip.specs.Writable.{is_free_name, is_writable_expr, are_writable, is_writable_body}
-use Rattle.text_round_trip.proofs.Falls.{FallsInto, token-prefix, falls-then, falls-apart, falls-nothing, blank-falls}
-use Rattle.text_round_trip.proofs.Words.{IsOperation, operation-falls, first-operation, no_label}
-use Rattle.text_round_trip.proofs.WrittenStatement.{IsBodyText, are_operands, operation-body}
+use Rattle.text_round_trip.specs.{ReadBack.AreNumerals, StatementText.{Numerals, operands_text, body_text}, Writable.{is_free_name, is_writable_expr, are_writable, is_writable_body}}
+use Rattle.text_round_trip.proofs.{Falls.{FallsInto, token-prefix, falls-then, falls-apart, falls-nothing, blank-falls}, Words.{IsOperation, operation-falls, first-operation, no_label}, WrittenStatement.{IsBodyText, are_operands, operation-body}}
 
 -- nothing
 pub empty-text : IsBodyText [] Empty

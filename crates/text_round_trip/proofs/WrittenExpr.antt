@@ -6,20 +6,10 @@ use Rattle.std.specs.List.{list_all}
 use Rattle.std.proofs.lemmas.Bool.{and_parts, and_from, or_left, false≢true, ltb-true}
 use Rattle.msp_decode.specs.declared.reg.Reg.{Reg}
 use Rattle.asm_text.specs.declared.piece.Piece.TheVariants as pieces
-use Rattle.asm_text.specs.declared.term.Term.{Term}
-use Rattle.asm_text.specs.declared.term.Term.TheVariants.{Number, Name, Here}
-use Rattle.asm_text.specs.declared.token.Token.{Token}
+use Rattle.asm_text.specs.{declared.{term.Term.{Term, TheVariants.{Number, Name, Here}}, token.Token.Token}, Expr.SignedTerm, Operand.{term_of, sign_of, terms_of, expr_of}, Token.{number_piece, word_piece, named_token, name_token, word_token}, Word.{is_word_character, is_name, is_name_character, number_of, operation_of, lower_case}, Name.register_of}
 use Rattle.asm_text.specs.declared.token.Token.TheVariants as tokens
-use Rattle.asm_text.specs.Expr.{SignedTerm}
-use Rattle.asm_text.specs.Operand.{term_of, sign_of, terms_of, expr_of}
-use Rattle.asm_text.specs.Token.{number_piece, word_piece, named_token, name_token, word_token}
-use Rattle.asm_text.specs.Word.{is_word_character, is_name, is_name_character, number_of, operation_of, lower_case}
-use Rattle.asm_text.specs.Name.{register_of}
-use Rattle.text_round_trip.specs.ReadBack.{AreNumerals}
-use Rattle.text_round_trip.specs.StatementText.{Numerals, term_text, sign_text, more_text, expr_text}
-use Rattle.text_round_trip.specs.Writable.{is_free_name, is_writable_term, is_writable_expr}
-use Rattle.text_round_trip.proofs.Falls.{ends, FallsInto, FallsAlways, falls-then, falls-apart, falls-into, falls-nothing, word-falls, plus-falls, minus-falls, here-falls}
-use Rattle.text_round_trip.proofs.Numerals.{number-falls}
+use Rattle.text_round_trip.specs.{ReadBack.AreNumerals, StatementText.{Numerals, term_text, sign_text, more_text, expr_text}, Writable.{is_free_name, is_writable_term, is_writable_expr}}
+use Rattle.text_round_trip.proofs.{Falls.{ends, FallsInto, FallsAlways, falls-then, falls-apart, falls-into, falls-nothing, word-falls, plus-falls, minus-falls, here-falls}, Numerals.number-falls}
 use borrow.Author.Tests.{not-true}
 
 abbrev pub token_of_name : List ℕ → Token

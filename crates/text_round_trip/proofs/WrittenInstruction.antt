@@ -3,18 +3,10 @@ use Rattle.std.proofs.Common.{◌≡◌, ◌∙◌, sym, refl, Bool, true, false
 use Rattle.std.specs.Prelude.{◌&&◌}
 use Rattle.std.proofs.lemmas.Bool.{and_parts, false≢true}
 use Rattle.word_arith.specs.declared.size.Size.{Size}
-use Rattle.asm_text.specs.declared.body.Body.TheVariants.{Instr}
-use Rattle.asm_text.specs.declared.mnemonic.Mnemonic.{Mnemonic}
-use Rattle.asm_text.specs.declared.operand.Operand.{Operand}
-use Rattle.asm_text.specs.declared.operand_form.OperandForm.{OperandForm}
+use Rattle.asm_text.specs.{declared.{body.Body.TheVariants.Instr, mnemonic.Mnemonic.Mnemonic, operand.Operand.Operand, operand_form.OperandForm.OperandForm}, Form.{form_of, operand_form}, Statement.fits}
 use Rattle.asm_text.specs.declared.operand_form.OperandForm.TheVariants as forms
-use Rattle.asm_text.specs.Form.{form_of, operand_form}
-use Rattle.asm_text.specs.Statement.{fits}
-use Rattle.text_round_trip.specs.ReadBack.{AreNumerals}
-use Rattle.text_round_trip.specs.StatementText.{Numerals, body_text}
-use Rattle.text_round_trip.specs.Writable.{is_none_or_writable, has_size, is_writable_body}
-use Rattle.text_round_trip.proofs.Words.{mnemonic-operation}
-use Rattle.text_round_trip.proofs.WrittenStatement.{IsBodyText, operation-body}
+use Rattle.text_round_trip.specs.{ReadBack.AreNumerals, StatementText.{Numerals, body_text}, Writable.{is_none_or_writable, has_size, is_writable_body}}
+use Rattle.text_round_trip.proofs.{Words.mnemonic-operation, WrittenStatement.{IsBodyText, operation-body}}
 
 second-alone : (form : OperandForm) (operand : Operand) → fits form None (Some operand) ≡ false
 second-alone forms.Nothing operand = refl

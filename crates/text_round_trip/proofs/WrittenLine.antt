@@ -2,20 +2,10 @@
 use Rattle.std.proofs.Common.{◌≡◌, ◌∙◌, ap, sym, subst, ℕ, true, List, ◌∷◌, ◌++◌, append_assoc, Option, Some, None, Result, Ok, refl}
 use Rattle.std.specs.Prelude.{codes}
 use Rattle.std.proofs.lemmas.Bool.{and_parts}
-use Rattle.text_scan.specs.declared.fault_kind.FaultKind.{FaultKind}
-use Rattle.text_scan.specs.Reader.{◌>>=◌}
-use Rattle.asm_text.specs.declared.body.Body.{Body}
-use Rattle.asm_text.specs.declared.statement.Statement.{Statement}
-use Rattle.asm_text.specs.declared.token.Token.TheVariants.{Colon}
-use Rattle.asm_text.specs.Source.{line_statement, statement_in_line}
-use Rattle.text_round_trip.specs.ReadBack.{AreNumerals, at_line}
-use Rattle.text_round_trip.specs.StatementText.{Numerals, body_text, label_text, statement_text}
-use Rattle.text_round_trip.specs.Writable.{is_free_label, is_writable_body, is_writable}
-use Rattle.text_round_trip.proofs.Falls.{FallsInto, falls-then, falls-apart, colon-falls, blank-falls}
-use Rattle.text_round_trip.proofs.WrittenBody.{body-written}
-use Rattle.text_round_trip.proofs.WrittenStatement.{IsBodyText}
-use Rattle.text_round_trip.proofs.WrittenExpr.{token_of_name, name-falls}
-use Rattle.text_round_trip.proofs.Words.{without_label, line-read}
+use Rattle.text_scan.specs.{declared.fault_kind.FaultKind.FaultKind, Reader.◌>>=◌}
+use Rattle.asm_text.specs.{declared.{body.Body.Body, statement.Statement.Statement, token.Token.TheVariants.Colon}, Source.{line_statement, statement_in_line}}
+use Rattle.text_round_trip.specs.{ReadBack.{AreNumerals, at_line}, StatementText.{Numerals, body_text, label_text, statement_text}, Writable.{is_free_label, is_writable_body, is_writable}}
+use Rattle.text_round_trip.proofs.{Falls.{FallsInto, falls-then, falls-apart, colon-falls, blank-falls}, WrittenBody.body-written, WrittenStatement.IsBodyText, WrittenExpr.{token_of_name, name-falls}, Words.{without_label, line-read}}
 
 -- a name with a colon and a blank before a text
 labelled-text : (name text : List ℕ)

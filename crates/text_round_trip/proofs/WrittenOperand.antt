@@ -6,22 +6,11 @@ use Rattle.std.proofs.lemmas.Bool.{and_parts, and_from, false≢true}
 use Rattle.std.proofs.lemmas.List.{take-append-drop}
 use Rattle.std.proofs.lemmas.List.Folds.{list_all-append}
 use Rattle.msp_decode.specs.declared.reg.Reg.{Reg as Register}
-use Rattle.asm_text.specs.Name.{reg_name}
-use Rattle.text_scan.specs.declared.fault_kind.FaultKind.{FaultKind}
-use Rattle.text_scan.specs.Reader.{◌>>=◌}
-use Rattle.asm_text.specs.declared.operand.Operand.{Operand}
-use Rattle.asm_text.specs.declared.operand.Operand.TheVariants.{Reg, Imm, Abs, Indexed, Symbolic, Indirect, IndirectInc}
-use Rattle.asm_text.specs.declared.token.Token.{Token}
+use Rattle.asm_text.specs.{Name.reg_name, declared.{operand.Operand.{Operand, TheVariants.{Reg, Imm, Abs, Indexed, Symbolic, Indirect, IndirectInc}}, token.Token.Token}, Expr.SignedTerm, Operand.{is_comma, expr_of, with_expr, place_operand, place_of, operand_of}}
+use Rattle.text_scan.specs.{declared.fault_kind.FaultKind.FaultKind, Reader.◌>>=◌}
 use Rattle.asm_text.specs.declared.token.Token.TheVariants as tokens
-use Rattle.asm_text.specs.Expr.{SignedTerm}
-use Rattle.asm_text.specs.Operand.{is_comma, expr_of, with_expr, place_operand, place_of, operand_of}
-use Rattle.text_round_trip.specs.ReadBack.{AreNumerals}
-use Rattle.text_round_trip.specs.StatementText.{Numerals, expr_text, operand_text}
-use Rattle.text_round_trip.specs.Writable.{is_writable_operand}
-use Rattle.text_round_trip.proofs.Falls.{FallsInto, falls-then, falls-apart, falls-into, hash-falls, ampersand-falls, at-falls, plus-falls, open-falls, close-falls}
-use Rattle.text_round_trip.proofs.Operands.{IsOperandOf, has_no_comma}
-use Rattle.text_round_trip.proofs.Words.{register-falls, begins_with_colon}
-use Rattle.text_round_trip.proofs.WrittenExpr.{terms-are, expr_tokens, expr-falls, expr-read, is_expr_token, are_expr_tokens, expr-are, expr-some}
+use Rattle.text_round_trip.specs.{ReadBack.AreNumerals, StatementText.{Numerals, expr_text, operand_text}, Writable.is_writable_operand}
+use Rattle.text_round_trip.proofs.{Falls.{FallsInto, falls-then, falls-apart, falls-into, hash-falls, ampersand-falls, at-falls, plus-falls, open-falls, close-falls}, Operands.{IsOperandOf, has_no_comma}, Words.{register-falls, begins_with_colon}, WrittenExpr.{terms-are, expr_tokens, expr-falls, expr-read, is_expr_token, are_expr_tokens, expr-are, expr-some}}
 
 abbrev pub operand_tokens : Operand → List Token
 operand_tokens (Reg register) = tokens.Register register ∷ []

@@ -4,21 +4,9 @@ use Rattle.std.specs.Prelude.{map}
 use Rattle.std.specs.List.{list_all}
 use Rattle.std.proofs.lemmas.Bool.{and_parts}
 use Rattle.text_scan.specs.Reader.{◌>>=◌}
-use Rattle.asm_text.specs.declared.body.Body.{Body}
-use Rattle.asm_text.specs.declared.operand.Operand.{Operand}
-use Rattle.asm_text.specs.declared.operation.Operation.{Operation}
-use Rattle.asm_text.specs.declared.token.Token.{Token}
-use Rattle.asm_text.specs.declared.token.Token.TheVariants.{Comma}
-use Rattle.asm_text.specs.Operand.{operand_of, operands_of}
-use Rattle.asm_text.specs.Statement.{is_ascii_directive, body_of, statement_body, labelled_body}
-use Rattle.asm_text.specs.Token.{word_token}
-use Rattle.text_round_trip.specs.ReadBack.{AreNumerals}
-use Rattle.text_round_trip.specs.StatementText.{Numerals, operand_text, more_operands_text, operands_text}
-use Rattle.text_round_trip.specs.Writable.{is_writable_operand}
-use Rattle.text_round_trip.proofs.Falls.{FallsInto, falls-then, falls-apart, falls-nothing, blank-falls, comma-falls}
-use Rattle.text_round_trip.proofs.Operands.{no_colon-first, has_no_comma, joint_tokens, joint-read}
-use Rattle.text_round_trip.proofs.WrittenOperand.{operand_tokens, operand-falls, operand-read}
-use Rattle.text_round_trip.proofs.Words.{IsOperation, begins_with_colon, without_label, operation-falls, no_label, operation-read}
+use Rattle.asm_text.specs.{declared.{body.Body.Body, operand.Operand.Operand, operation.Operation.Operation, token.Token.{Token, TheVariants.Comma}}, Operand.{operand_of, operands_of}, Statement.{is_ascii_directive, body_of, statement_body, labelled_body}, Token.word_token}
+use Rattle.text_round_trip.specs.{ReadBack.AreNumerals, StatementText.{Numerals, operand_text, more_operands_text, operands_text}, Writable.is_writable_operand}
+use Rattle.text_round_trip.proofs.{Falls.{FallsInto, falls-then, falls-apart, falls-nothing, blank-falls, comma-falls}, Operands.{no_colon-first, has_no_comma, joint_tokens, joint-read}, WrittenOperand.{operand_tokens, operand-falls, operand-read}, Words.{IsOperation, begins_with_colon, without_label, operation-falls, no_label, operation-read}}
 
 -- the tokens of operands one behind the other
 abbrev all_tokens : Operand → List Operand → List Token

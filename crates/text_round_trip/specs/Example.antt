@@ -3,11 +3,7 @@ use Rattle.std.specs.Prelude.{true, false, [], ◌∷◌, codes, Some}
 use Rattle.word_arith.specs.declared.size.Size.TheVariants as sizes
 use Rattle.word_arith.specs.declared.op2.Op2.TheVariants.{Mov}
 use Rattle.msp_decode.specs.declared.reg.Reg.TheVariants.{R4}
-use Rattle.asm_text.specs.declared.body.Body.TheVariants.{Instr}
-use Rattle.asm_text.specs.declared.mnemonic.Mnemonic.TheVariants.{Two}
-use Rattle.asm_text.specs.declared.operand.Operand.TheVariants.{Imm, Indexed}
-use Rattle.asm_text.specs.declared.statement.Statement.{Statement}
-use Rattle.asm_text.specs.declared.term.Term.TheVariants.{Number, Name}
+use Rattle.asm_text.specs.{declared.{body.Body.TheVariants.Instr, mnemonic.Mnemonic.TheVariants.Two, operand.Operand.TheVariants.{Imm, Indexed}, statement.Statement.Statement, term.Term.TheVariants.{Number, Name}}}
 
 abbrev pub labelled_move : Statement
 labelled_move =

@@ -1,22 +1,11 @@
 -- What a listing's items are where the assembler reads them.
 use Rattle.std.specs.Prelude.{◌≡◌, ◌<◌, ◌+◌, ◌*◌, ◌&&◌, ℕ, ℤ, pos, negsuc, Bool, true, nat_le, nat_lt, List, [], ◌∷◌, flat_map, length, slice_index, if◌then◌else◌, Option, Some, None, is_none, Result, Ok, Err}
 use Rattle.word_arith.specs.declared.size.Size.{Size}
-use Rattle.msp_decode.specs.declared.source.Source.{Source}
-use Rattle.msp_decode.specs.declared.source.Source.TheVariants.{Immediate}
-use Rattle.msp_decode.specs.declared.instr.Instr.{Instr}
-use Rattle.msp_decode.specs.declared.instr.Instr.TheVariants.{Two, One, Reti, Jump}
-use Rattle.msp_decode.specs.Completion.{words_of}
-use Rattle.text_scan.specs.declared.fault_kind.FaultKind.{FaultKind}
-use Rattle.text_scan.specs.declared.fault_kind.FaultKind.TheVariants.{Range}
-use Rattle.text_scan.specs.Reader.{◌>>=◌}
-use Rattle.asm_text.specs.declared.body.Body.{Body}
-use Rattle.asm_text.specs.Source.{line_statement}
-use Rattle.msp_asm.specs.Operand.{all_ones, constant_of, immediate}
-use Rattle.msp_asm.specs.Statement.{bytes_of, word_bytes}
-use Rattle.msp_asm.specs.declared.item.Item.{Item}
+use Rattle.msp_decode.specs.{declared.{source.Source.{Source, TheVariants.Immediate}, instr.Instr.{Instr, TheVariants.{Two, One, Reti, Jump}}}, Completion.words_of}
+use Rattle.text_scan.specs.{declared.fault_kind.FaultKind.{FaultKind, TheVariants.Range}, Reader.◌>>=◌}
+use Rattle.asm_text.specs.{declared.body.Body.Body, Source.line_statement}
+use Rattle.msp_asm.specs.{Operand.{all_ones, constant_of, immediate}, Statement.{bytes_of, word_bytes}, declared.item.Item.Item, Item.item_size, ItemText.item_text}
 use Rattle.msp_asm.specs.declared.item.Item.TheVariants as items
-use Rattle.msp_asm.specs.Item.{item_size}
-use Rattle.msp_asm.specs.ItemText.{item_text}
 
 -- an immediate is the constant of its value where a generator gives it; above 00FF it is none of a
 -- byte instruction

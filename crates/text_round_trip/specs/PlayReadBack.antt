@@ -1,10 +1,6 @@
 -- The text of a play, read as a report file.
 use Rattle.std.specs.Prelude.{◌≡◌, ◌<◌, ◌^◌, length, Ok}
-use Rattle.device_trace.specs.Play.{Play}
-use Rattle.device_trace.specs.Progress.{next_pc_of}
-use Rattle.device_trace.specs.Start.{Start}
-use Rattle.device_trace.specs.Text.{play_text}
-use Rattle.device_trace.specs.Trace.{logs_after}
+use Rattle.device_trace.specs.{Play.Play, Progress.next_pc_of, Start.Start, Text.play_text, Trace.logs_after}
 use Rattle.report_text.specs.ReportFile.{reports_of}
 use Rattle.text_round_trip.specs.PlayReports.{play_reports}
 

@@ -2,9 +2,7 @@
 use Rattle.std.specs.Prelude.{◌++◌, List, [], ◌∷◌}
 use Rattle.std.specs.Option.{option_to_list}
 use Rattle.bus_signals.specs.Report.{ReportFields}
-use Rattle.device_trace.specs.Play.{Play}
-use Rattle.device_trace.specs.Start.{Start}
-use Rattle.device_trace.specs.Text.{last_report}
+use Rattle.device_trace.specs.{Play.Play, Start.Start, Text.last_report}
 
 -- the reports that the steps of a play made, in the order of the steps
 unfoldable pub play_reports : Start → Play → List ReportFields

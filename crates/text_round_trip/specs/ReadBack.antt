@@ -1,7 +1,6 @@
 -- What is written is read back.
 use Rattle.std.specs.Prelude.{◌≡◌, ◌<◌, ◌+◌, ◌++◌, ℕ, List, [], ◌∷◌, codes, Some}
-use Rattle.asm_text.specs.declared.statement.Statement.{Statement}
-use Rattle.asm_text.specs.Word.{number_of}
+use Rattle.asm_text.specs.{declared.statement.Statement.Statement, Word.number_of}
 use Rattle.text_round_trip.specs.StatementText.{Numerals, statement_text}
 
 -- each number is written as a numeral of it: decimal, or hexadecimal, with zeros in front or not

@@ -1,14 +1,6 @@
 -- The text of a statement, where each number is written in a given way.
 use Rattle.std.specs.Prelude.{◌++◌, ℕ, Bool, true, false, List, [], ◌∷◌, map, codes, Option, None, Some}
-use Rattle.asm_text.specs.declared.term.Term.{Term}
-use Rattle.asm_text.specs.declared.term.Term.TheVariants.{Number, Name, Here}
-use Rattle.asm_text.specs.declared.operand.Operand.{Operand}
-use Rattle.asm_text.specs.declared.operand.Operand.TheVariants.{Reg, Imm, Abs, Indexed, Symbolic, Indirect, IndirectInc}
-use Rattle.asm_text.specs.declared.body.Body.{Body}
-use Rattle.asm_text.specs.declared.body.Body.TheVariants.{Empty, Instr, Org, Word, Byte, Ascii, Equ}
-use Rattle.asm_text.specs.declared.statement.Statement.{Statement}
-use Rattle.asm_text.specs.Expr.{SignedTerm}
-use Rattle.asm_text.specs.Name.{mnemonic_name, reg_name}
+use Rattle.asm_text.specs.{declared.{term.Term.{Term, TheVariants.{Number, Name, Here}}, operand.Operand.{Operand, TheVariants.{Reg, Imm, Abs, Indexed, Symbolic, Indirect, IndirectInc}}, body.Body.{Body, TheVariants.{Empty, Instr, Org, Word, Byte, Ascii, Equ}}, statement.Statement.Statement}, Expr.SignedTerm, Name.{mnemonic_name, reg_name}}
 use Rattle.msp_asm.specs.ItemText.{size_suffix}
 
 -- how numbers are written

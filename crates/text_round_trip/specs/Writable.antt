@@ -3,20 +3,7 @@ use Rattle.std.specs.Prelude.{ℕ, ◌&&◌, Bool, true, List, length, nat_lt, O
 use Rattle.std.specs.List.{list_all}
 use Rattle.word_arith.specs.declared.size.Size.{Size}
 use Rattle.word_arith.specs.declared.size.Size.TheVariants as sizes
-use Rattle.asm_text.specs.declared.mnemonic.Mnemonic.{Mnemonic}
-use Rattle.asm_text.specs.declared.term.Term.{Term}
-use Rattle.asm_text.specs.declared.term.Term.TheVariants.{Number, Name, Here}
-use Rattle.asm_text.specs.declared.operand.Operand.{Operand}
-use Rattle.asm_text.specs.declared.operand.Operand.TheVariants.{Reg, Imm, Abs, Indexed, Symbolic, Indirect, IndirectInc}
-use Rattle.asm_text.specs.declared.body.Body.{Body}
-use Rattle.asm_text.specs.declared.body.Body.TheVariants.{Empty, Instr, Org, Word, Byte, Ascii, Equ}
-use Rattle.asm_text.specs.declared.statement.Statement.{Statement}
-use Rattle.asm_text.specs.Expr.{SignedTerm}
-use Rattle.asm_text.specs.Form.{form_of, has_byte_form, operand_form}
-use Rattle.asm_text.specs.Name.{register_of}
-use Rattle.asm_text.specs.Statement.{fits}
-use Rattle.asm_text.specs.Token.{is_text_character}
-use Rattle.asm_text.specs.Word.{is_name, lower_case}
+use Rattle.asm_text.specs.{declared.{mnemonic.Mnemonic.Mnemonic, term.Term.{Term, TheVariants.{Number, Name, Here}}, operand.Operand.{Operand, TheVariants.{Reg, Imm, Abs, Indexed, Symbolic, Indirect, IndirectInc}}, body.Body.{Body, TheVariants.{Empty, Instr, Org, Word, Byte, Ascii, Equ}}, statement.Statement.Statement}, Expr.SignedTerm, Form.{form_of, has_byte_form, operand_form}, Name.register_of, Statement.fits, Token.is_text_character, Word.{is_name, lower_case}}
 
 -- a name is no register in any case
 abbrev pub is_free_name : List ℕ → Bool

@@ -1,8 +1,6 @@
 ghost use Rattle.std.specs.Prelude.{◌≡◌, codes, true};
 ghost use Rattle.std.specs.Fmt.{decimal};
-ghost use Rattle.text_round_trip.specs.Example.{labelled_move};
-ghost use Rattle.text_round_trip.specs.StatementText.{statement_text};
-ghost use Rattle.text_round_trip.specs.Writable.{is_writable};
+ghost use Rattle.text_round_trip.specs.{Example.labelled_move, StatementText.statement_text, Writable.is_writable};
 
 /// A label, a byte instruction, a sum with a name, and an index.
 pub fn move_is_written()

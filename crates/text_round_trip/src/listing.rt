@@ -1,7 +1,6 @@
 ghost use Rattle.std.specs.Prelude.{◌≡◌, ◌↔◌, ℕ, Option, Some, IsTrue};
 ghost use Rattle.mem_map.specs.ImagePlace.{IsImage};
-ghost use Rattle.msp_asm.specs.declared.item.Item.{Item};
-ghost use Rattle.msp_asm.specs.Item.{item_at};
+ghost use Rattle.msp_asm.specs.{declared.item.Item.Item, Item.item_at};
 ghost use Rattle.text_round_trip.specs.Listing.{IsReadAs, AreSameBytes, is_plain};
 
 use msp_decode::{heads_are_spelled, words_are_written};

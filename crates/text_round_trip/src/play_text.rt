@@ -1,9 +1,7 @@
 ghost use Rattle.std.specs.Prelude.{Bool};
-ghost use Rattle.bus_signals.specs.SeenRecord.{SeenHistory};
-ghost use Rattle.bus_signals.specs.Address.{Bytes, Contents};
+ghost use Rattle.bus_signals.specs.{SeenRecord.SeenHistory, Address.{Bytes, Contents}};
 ghost use Rattle.part_definitions.specs.Hmac.{Digest};
-ghost use Rattle.device_trace.specs.Play.{Play};
-ghost use Rattle.device_trace.specs.Start.{with_key};
+ghost use Rattle.device_trace.specs.{Play.Play, Start.with_key};
 ghost use Rattle.mac_coverage.specs.Coverage.{IsDeviceKey, IsOfBytes};
 ghost use Rattle.text_round_trip.specs.PlayReadBack.{FitsItsLines, IsPlayReadBack};
 

@@ -1,10 +1,7 @@
 ghost use Rattle.std.specs.Prelude.{◌≡◌, ℕ, List, IsTrue, Ok};
 ghost use Rattle.std.specs.List.{list_all};
-ghost use Rattle.asm_text.specs.declared.statement.Statement.{Statement};
-ghost use Rattle.asm_text.specs.Source.{line_statement, source_of};
-ghost use Rattle.text_round_trip.specs.ReadBack.{AreNumerals, at_line, source_text, from_line};
-ghost use Rattle.text_round_trip.specs.StatementText.{Numerals, statement_text};
-ghost use Rattle.text_round_trip.specs.Writable.{is_writable};
+ghost use Rattle.asm_text.specs.{declared.statement.Statement.Statement, Source.{line_statement, source_of}};
+ghost use Rattle.text_round_trip.specs.{ReadBack.{AreNumerals, at_line, source_text, from_line}, StatementText.{Numerals, statement_text}, Writable.is_writable};
 
 /// A statement that is written in a line is read back, whatever the number of the line: label,
 /// mnemonic or directive, size, operands and expressions are the same, and names have the same

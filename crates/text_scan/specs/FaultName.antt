@@ -1,7 +1,6 @@
 -- The names of faults.
 use Rattle.std.specs.Prelude.{ℕ, List, [], ◌∷◌, codes}
-use Rattle.text_scan.specs.declared.fault_kind.FaultKind.{FaultKind}
-use Rattle.text_scan.specs.declared.fault_kind.FaultKind.TheVariants.{TooLong, Utf8, Word, Digit, Count, Range, Extra, Missing, Order, Bounds, Output, NoColon, Check, RecordType, Place, AfterEnd, NoEnd, Syntax, Mnemonic, Operand, Undefined, Twice, Overlap}
+use Rattle.text_scan.specs.{declared.fault_kind.FaultKind.{FaultKind, TheVariants.{TooLong, Utf8, Word, Digit, Count, Range, Extra, Missing, Order, Bounds, Output, NoColon, Check, RecordType, Place, AfterEnd, NoEnd, Syntax, Mnemonic, Operand, Undefined, Twice, Overlap}}}
 use Rattle.named_value.specs.Names.{Names}
 
 abbrev pub fault_name : FaultKind → List ℕ

@@ -4,11 +4,7 @@ use Rattle.std.specs.Prelude.{◌==◌}
 use Rattle.std.proofs.lemmas.Bool.{eqb-true}
 use Rattle.bus_signals.specs.Report.{ReportFields}
 use Rattle.part_definitions.specs.Request.{ATTESTS}
-use Rattle.device_trace.specs.Play.{Play}
-use Rattle.device_trace.specs.Logs.{Logs}
-use Rattle.device_trace.specs.Start.{Start}
-use Rattle.device_trace.specs.Text.{last_decision, last_report, report_of, report_where}
-use Rattle.device_trace.specs.Trace.{logs_after}
+use Rattle.device_trace.specs.{Play.Play, Logs.Logs, Start.Start, Text.{last_decision, last_report, report_of, report_where}, Trace.logs_after}
 use Rattle.trace_facts.proofs.Choices.{some_where}
 
 pub record IsMade (start : Start) (logs : Logs) (decision : Option ℕ) (report : ReportFields)

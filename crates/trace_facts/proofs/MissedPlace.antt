@@ -4,12 +4,7 @@ use Rattle.std.specs.Prelude.{◌==◌, ◌&&◌, option_to_list}
 use Rattle.std.specs.List.{list_any}
 use Rattle.std.proofs.lemmas.Bool.{cond-false, or_from}
 use Rattle.word_arith.specs.declared.size.Size.TheVariants.{Byte, Word}
-use Rattle.bus_signals.specs.declared.access.Access.{Access}
-use Rattle.bus_signals.specs.declared.access.Access.TheVariants.{Fetch, Read, Write}
-use Rattle.bus_signals.specs.declared.region.Region.{Region}
-use Rattle.bus_signals.specs.Access.{is_write, some_writes}
-use Rattle.bus_signals.specs.Map.{touches, some_touches}
-use Rattle.bus_signals.specs.ExecFlag.{writes_to}
+use Rattle.bus_signals.specs.{declared.{access.Access.{Access, TheVariants.{Fetch, Read, Write}}, region.Region.Region}, Access.{is_write, some_writes}, Map.{touches, some_touches}, ExecFlag.writes_to}
 use Rattle.part_definitions.specs.Memory.{MemoryWrite, last_written, with_access}
 
 -- a byte elsewhere

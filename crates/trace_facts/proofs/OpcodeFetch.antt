@@ -2,17 +2,10 @@
 -- `pc`.
 use Rattle.std.proofs.Common.{◌≡◌, ℕ, Bool, [], ◌∷◌, Option, length, refl}
 use Rattle.std.specs.Prelude.{◌&&◌}
-use Rattle.bus_signals.specs.declared.kind.Kind.{Kind}
-use Rattle.bus_signals.specs.declared.kind.Kind.TheVariants.{Boot, Cpu, Idle, Irq, Rom}
-use Rattle.bus_signals.specs.Kind.{is_cpu}
+use Rattle.bus_signals.specs.{declared.kind.Kind.{Kind, TheVariants.{Boot, Cpu, Idle, Irq, Rom}}, Kind.is_cpu, ExecFlag.fetches_at}
 use Rattle.part_definitions.specs.CpuState.{Boundary, Executing, Entering}
-use Rattle.bus_signals.specs.ExecFlag.{fetches_at}
-use Rattle.device_trace.specs.Logs.{Logs, vector_of}
-use Rattle.device_trace.specs.Progress.{Progress, Held, Runs, InCall, kind_of, next_pc_of, progress_within, access_of, fetches_opcode}
-use Rattle.device_trace.specs.Signals.{step_kind, signals_at, signals_of}
-use Rattle.device_trace.specs.Start.{Start}
-use Rattle.trace_facts.proofs.OwnFetch.{own_fetch, later_elsewhere}
-use Rattle.trace_facts.proofs.ProperPlay.{IsProperProgress}
+use Rattle.device_trace.specs.{Logs.{Logs, vector_of}, Progress.{Progress, Held, Runs, InCall, kind_of, next_pc_of, progress_within, access_of, fetches_opcode}, Signals.{step_kind, signals_at, signals_of}, Start.Start}
+use Rattle.trace_facts.proofs.{OwnFetch.{own_fetch, later_elsewhere}, ProperPlay.IsProperProgress}
 
 -- a step is an opcode fetch exactly where the processor fetches at its own `pc`
 opcode_of : (start : Start) (releases : ℕ) (kind : Kind) (progress : Progress) (vector : Option ℕ)

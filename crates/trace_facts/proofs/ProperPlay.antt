@@ -1,21 +1,11 @@
 -- After every play the registers of the progress have an even PC.
 use Rattle.std.proofs.Common.{ℕ, List, Option, Some, None, refl}
 use Rattle.std.proofs.lemmas.Bool.{cond_both}
-use Rattle.bus_signals.specs.declared.access.Access.{Access}
-use Rattle.bus_signals.specs.declared.kind.Kind.{Kind}
-use Rattle.bus_signals.specs.declared.kind.Kind.TheVariants.{Boot, Cpu, Idle, Irq, Rom}
+use Rattle.bus_signals.specs.{declared.{access.Access.Access, kind.Kind.{Kind, TheVariants.{Boot, Cpu, Idle, Irq, Rom}}}}
 use Rattle.msp_decode.specs.declared.reg.Reg.TheVariants.{R1}
-use Rattle.part_definitions.specs.Attestation.{call_item, is_return, word_passed}
-use Rattle.part_definitions.specs.CpuRegister.{clear_registers, after_pop}
-use Rattle.part_definitions.specs.CpuState.{Boundary, Executing, Entering}
-use Rattle.device_trace.specs.Play.{Play}
-use Rattle.device_trace.specs.Logs.{vector_of}
-use Rattle.device_trace.specs.Progress.{Progress, Held, Runs, InCall, progress_from_boundary, progress_within, after_return, call_after, next_progress}
-use Rattle.device_trace.specs.Signals.{step_kind}
-use Rattle.device_trace.specs.Start.{Start}
-use Rattle.device_trace.specs.Trace.{logs_after}
-use Rattle.trace_facts.proofs.ProperRegisters.{IsProper, IsProperCpu, with_register-proper, with_pc-proper, cpu_after-proper}
-use Rattle.trace_facts.proofs.EachPlay.{logs_after-kept, cpu_state_after-kept}
+use Rattle.part_definitions.specs.{Attestation.{call_item, is_return, word_passed}, CpuRegister.{clear_registers, after_pop}, CpuState.{Boundary, Executing, Entering}}
+use Rattle.device_trace.specs.{Play.Play, Logs.vector_of, Progress.{Progress, Held, Runs, InCall, progress_from_boundary, progress_within, after_return, call_after, next_progress}, Signals.step_kind, Start.Start, Trace.logs_after}
+use Rattle.trace_facts.proofs.{ProperRegisters.{IsProper, IsProperCpu, with_register-proper, with_pc-proper, cpu_after-proper}, EachPlay.{logs_after-kept, cpu_state_after-kept}}
 
 abbrev pub IsProperProgress : Progress → Type 0
 IsProperProgress Held = Unit {0}

@@ -1,19 +1,11 @@
 -- The ROM's code is run in calls alone.
 use Rattle.std.proofs.Common.{◌≡◌, Bool, true, false, sym, ◌∙◌}
 use Rattle.std.specs.Prelude.{All}
-use Rattle.bus_signals.specs.declared.kind.Kind.{Kind}
-use Rattle.bus_signals.specs.declared.kind.Kind.TheVariants.{Rom}
+use Rattle.bus_signals.specs.{declared.kind.Kind.{Kind, TheVariants.Rom}}
 use Rattle.part_definitions.specs.MonitorRule.{in_rom}
-use Rattle.device_trace.specs.Play.{Play}
-use Rattle.device_trace.specs.Logs.{Logs, step_progress}
-use Rattle.device_trace.specs.Progress.{Progress, Held, Runs, InCall, next_pc_of}
-use Rattle.device_trace.specs.Signals.{step_kind, signals_at}
-use Rattle.device_trace.specs.Start.{Start}
-use Rattle.device_trace.specs.Step.{record_of}
-use Rattle.device_trace.specs.Trace.{trace}
+use Rattle.device_trace.specs.{Play.Play, Logs.{Logs, step_progress}, Progress.{Progress, Held, Runs, InCall, next_pc_of}, Signals.{step_kind, signals_at}, Start.Start, Step.record_of, Trace.trace}
 use Rattle.trace_facts.specs.RomCode.{RunsRomInCall}
-use Rattle.trace_facts.proofs.Sound.{IsWithin}
-use Rattle.trace_facts.proofs.SoundPlay.{LogsAreSound, within_unrefused, each_record}
+use Rattle.trace_facts.proofs.{Sound.IsWithin, SoundPlay.{LogsAreSound, within_unrefused, each_record}}
 
 within_rom : (kind : Kind) (progress : Progress) → IsWithin kind progress
     → in_rom (next_pc_of progress) ≡ true → kind ≡ Rom

@@ -1,19 +1,11 @@
 -- The progress is sound after every play.
 use Rattle.std.proofs.Common.{◌≡◌, Bool, [], ◌∷◌, None}
 use Rattle.part_definitions.specs.FirstRule.{first_rule}
-use Rattle.bus_signals.specs.ExecFlag.{last_pc}
-use Rattle.device_trace.specs.Play.{Play}
-use Rattle.device_trace.specs.Logs.{Logs, vector_of, step_progress, with_events}
-use Rattle.device_trace.specs.Signals.{step_kind, signals_at, signals_of}
-use Rattle.device_trace.specs.Start.{Start}
-use Rattle.device_trace.specs.Step.{record_of, next_record}
-use Rattle.device_trace.specs.Trace.{logs_after, trace}
-use Rattle.trace_facts.proofs.Sound.{IsSound, IsWithin, progress_within-right, next_progress-sound}
-use Rattle.trace_facts.proofs.BreaksNoRule.{first_rule-none}
-use Rattle.trace_facts.proofs.EachPlay.{HoldsAfter, logs_after-kept}
+use Rattle.bus_signals.specs.{ExecFlag.last_pc, declared.bus_record.BusRecord.BusRecord}
+use Rattle.device_trace.specs.{Play.Play, Logs.{Logs, vector_of, step_progress, with_events}, Signals.{step_kind, signals_at, signals_of}, Start.Start, Step.{record_of, next_record}, Trace.{logs_after, trace}}
+use Rattle.trace_facts.proofs.{Sound.{IsSound, IsWithin, progress_within-right, next_progress-sound}, BreaksNoRule.first_rule-none, EachPlay.{HoldsAfter, logs_after-kept}}
 use Rattle.std.specs.Prelude.{All}
 use Rattle.std.proofs.lemmas.List.Elements.{All-nil, All-cons}
-use Rattle.bus_signals.specs.declared.bus_record.BusRecord.{BusRecord}
 
 -- of the logs of a play
 abbrev pub LogsAreSound : Logs → Type 0

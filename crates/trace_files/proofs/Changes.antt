@@ -5,14 +5,9 @@ use Rattle.std.specs.Bool.{MatchBool}
 use Rattle.std.specs.Fmt.{digits}
 use Rattle.std.proofs.lemmas.Bool.{and_parts}
 use Rattle.named_value.specs.PlainWord.{is_plain}
-use Rattle.trace_files.specs.declared.wire.Wire.{Wire}
-use Rattle.trace_files.specs.Wire.{wires, wire_code}
+use Rattle.trace_files.specs.{declared.wire.Wire.Wire, Wire.{wires, wire_code}, WaveText.{change_text, digits_text, is_bit}, WaveReader.{WavePoint, with_change, with_value}}
 use Rattle.word_arith.specs.Number.{bit_of}
-use Rattle.trace_files.specs.WaveText.{change_text, digits_text, is_bit}
-use Rattle.trace_files.specs.WaveReader.{WavePoint, with_change, with_value}
-use Rattle.trace_files.proofs.Fitting.{IsShort, Suits}
-use Rattle.trace_files.proofs.Reading.{Reads, plain_value, reads_both, reads_line, reads_nothing, value_in_digits}
-use Rattle.trace_files.proofs.Stages.{are_numbered, kept, replaced, staged}
+use Rattle.trace_files.proofs.{Fitting.{IsShort, Suits}, Reading.{Reads, plain_value, reads_both, reads_line, reads_nothing, value_in_digits}, Stages.{are_numbered, kept, replaced, staged}}
 
 plain-code : (wire : Wire) → is_plain (wire_code wire) ≡ true
 plain-code = search rules

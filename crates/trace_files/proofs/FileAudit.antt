@@ -1,17 +1,8 @@
 -- The lines of a trace file, one after the other.
 use Rattle.std.proofs.Common.{arith, ◌≡◌, ◌∙◌, ◌==◌, ap, sym, ℕ, List, [], ◌∷◌, length, true, false, None, Result, Ok, Err, refl}
 use Rattle.std.proofs.lemmas.Bool.Decides.{nat_tests}
-use Rattle.text_scan.specs.declared.fault_at.FaultAt.{FaultAt}
-use Rattle.text_scan.specs.Reader.{in_line}
-use Rattle.text_scan.specs.Word.{words_of}
-use Rattle.trace_files.specs.LineGrammar.{trace_line_of}
-use Rattle.trace_files.specs.TraceFile.{is_empty, lines_after}
-use Rattle.trace_files.specs.declared.trace_line.TraceLine.{TraceLine}
-use Rattle.trace_files.specs.declared.audit.Audit.{Audit}
-use Rattle.trace_files.specs.declared.audited.Audited.{Audited}
-use Rattle.trace_files.specs.Audit.{AuditStandsFor}
-use Rattle.trace_files.specs.AuditText.{audit_of_lines}
-use Rattle.trace_files.specs.Offence.{first_offence}
+use Rattle.text_scan.specs.{declared.fault_at.FaultAt.FaultAt, Reader.in_line, Word.words_of}
+use Rattle.trace_files.specs.{LineGrammar.trace_line_of, TraceFile.{is_empty, lines_after}, declared.{trace_line.TraceLine.TraceLine, audit.Audit.Audit, audited.Audited.Audited}, Audit.AuditStandsFor, AuditText.audit_of_lines, Offence.first_offence}
 
 -- an audit has seen lines, this was said of them, and the rest of the file gives what all of it
 -- gives

@@ -7,25 +7,14 @@ use Rattle.std.proofs.lemmas.Bool.{and_from, eq-eqb}
 use Rattle.std.proofs.lemmas.List.Folds.{list_all-append}
 use Rattle.hex.specs.Hex.{encode_with}
 use Rattle.word_arith.specs.declared.size.Size.TheVariants.{Byte, Word}
-use Rattle.bus_signals.specs.declared.access.Access.{Access}
-use Rattle.bus_signals.specs.declared.access.Access.TheVariants.{Fetch, Read, Write}
-use Rattle.bus_signals.specs.declared.bounds.Bounds.{Bounds}
-use Rattle.bus_signals.specs.declared.kind.Kind.{Kind}
-use Rattle.bus_signals.specs.declared.rule.Rule.{Rule}
-use Rattle.bus_signals.specs.Kind.{kind_name, kind_names}
+use Rattle.bus_signals.specs.{declared.{access.Access.{Access, TheVariants.{Fetch, Read, Write}}, bounds.Bounds.Bounds, kind.Kind.Kind, rule.Rule.Rule}, Kind.{kind_name, kind_names}, Bounds.AreWords}
 use Rattle.printed_lines.specs.Line.{byte_digits, word_digits, flag_digit}
 use Rattle.line_buffer.specs.LineLaw.{ArePieces}
 use Rattle.line_buffer.proofs.PieceLines.{first_line, plain-flag, plain-byte, plain-word}
 use Rattle.text_scan.specs.WordValue.{number_of, place_of, value_of}
-use Rattle.named_value.specs.Names.{value_named}
-use Rattle.named_value.specs.PlainWord.{IsPlainWord, is_plain}
-use Rattle.text_scan.proofs.NamedWord.{value_of-name}
-use Rattle.text_scan.proofs.PlainWords.{one_byte, decimal_of-decimal, hex_bytes_of-digits, hex_word_of-digits, plain-decimal}
-use Rattle.trace_files.specs.declared.trace_line.TraceLine.{TraceLine}
-use Rattle.trace_files.specs.LineText.{access_word, rule_word, line_pieces}
-use Rattle.trace_files.specs.LineGrammar.{LAST_TRACED_STEP, fetch_in, read_in, write_in, access_in, rule_in, named_of, flag_of, bounds_of, fields_of, trace_line_of}
-use Rattle.bus_signals.specs.Bounds.{AreWords}
-use Rattle.trace_files.specs.LineReadBack.{IsAllowed, IsPrintable, LinesReadBack}
+use Rattle.named_value.specs.{Names.value_named, PlainWord.{IsPlainWord, is_plain}}
+use Rattle.text_scan.proofs.{NamedWord.value_of-name, PlainWords.{one_byte, decimal_of-decimal, hex_bytes_of-digits, hex_word_of-digits, plain-decimal}}
+use Rattle.trace_files.specs.{declared.trace_line.TraceLine.TraceLine, LineText.{access_word, rule_word, line_pieces}, LineGrammar.{LAST_TRACED_STEP, fetch_in, read_in, write_in, access_in, rule_in, named_of, flag_of, bounds_of, fields_of, trace_line_of}, LineReadBack.{IsAllowed, IsPrintable, LinesReadBack}}
 
 -- the value of each word
 

@@ -4,14 +4,8 @@ use Rattle.std.specs.Prelude.{if◌then◌else◌}
 use Rattle.std.proofs.lemmas.Slice.Eq.{bytes_eq-Decides}
 use Rattle.bus_signals.specs.declared.rule.Rule.{Rule}
 use Rattle.std.specs.Prelude.{Ok}
-use Rattle.trace_files.specs.LineText.{rule_word}
-use Rattle.trace_files.specs.LineGrammar.{rule_in}
+use Rattle.trace_files.specs.{LineText.rule_word, LineGrammar.rule_in, declared.{trace_line.TraceLine.TraceLine, offence.Offence.{Offence, TheVariants.{RuleIs, ExecIs}}}, Clean.{right_rule, right_exec, IsRight, IsClean}, Offence.{is_same_rule, is_same_flag, offence_of, or_first, first_offence, CleanHasNoOffence}}
 use Rattle.trace_files.proofs.LineReadBack.{rule_in-word}
-use Rattle.trace_files.specs.declared.trace_line.TraceLine.{TraceLine}
-use Rattle.trace_files.specs.declared.offence.Offence.{Offence}
-use Rattle.trace_files.specs.declared.offence.Offence.TheVariants.{RuleIs, ExecIs}
-use Rattle.trace_files.specs.Clean.{right_rule, right_exec, IsRight, IsClean}
-use Rattle.trace_files.specs.Offence.{is_same_rule, is_same_flag, offence_of, or_first, first_offence, CleanHasNoOffence}
 
 same_rule : (left right : Option Rule) → is_same_rule left right ≡ true → left ≡ right
 same_rule left right same =

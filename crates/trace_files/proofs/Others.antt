@@ -7,11 +7,7 @@ use Rattle.std.proofs.lemmas.Grind.{get_or_after_one}
 use Rattle.std.proofs.lemmas.List.{get_or-take}
 use Rattle.std.proofs.lemmas.List.Folds.{list_any-append}
 use Rattle.std.proofs.lemmas.List.Concat.{flat_map-append}
-use Rattle.trace_files.specs.declared.sample.Sample.{Sample}
-use Rattle.trace_files.specs.declared.wire.Wire.{Wire}
-use Rattle.trace_files.specs.Wire.{line_wires, other_wires, register_wires, wires}
-use Rattle.trace_files.specs.WireValue.{is_same_value, register_value, wire_value}
-use Rattle.trace_files.specs.WaveText.{change_of, change_text, is_any_told, is_told, wires_text}
+use Rattle.trace_files.specs.{declared.{sample.Sample.Sample, wire.Wire.Wire}, Wire.{line_wires, other_wires, register_wires, wires}, WireValue.{is_same_value, register_value, wire_value}, WaveText.{change_of, change_text, is_any_told, is_told, wires_text}}
 
 pub text_in_two : (last : Option Sample) (now : Sample)
     → wires_text last now wires

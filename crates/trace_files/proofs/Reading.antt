@@ -13,12 +13,10 @@ use Rattle.std.proofs.lemmas.Fmt.{digits_is_IsNumeral}
 use Rattle.std.proofs.lemmas.Str.{digit_value_digit}
 use Rattle.std.proofs.lemmas.Str.Parse.{digit_from_value}
 use Rattle.text_scan.specs.declared.fault_kind.FaultKind.{FaultKind}
-use Rattle.text_scan.proofs.FirstLine.{lines-line}
+use Rattle.text_scan.proofs.{FirstLine.lines-line, PlainWords.{ArePlain, decimal_of-decimal, plain-decimal, printed-join, printed_bounds, words_of-join}}
 use Rattle.named_value.specs.PlainWord.{is_plain}
-use Rattle.text_scan.proofs.PlainWords.{ArePlain, decimal_of-decimal, plain-decimal, printed-join, printed_bounds, words_of-join}
-use Rattle.trace_files.specs.WaveText.{digits_text, time_text}
+use Rattle.trace_files.specs.{WaveText.{digits_text, time_text}, WaveReader.{WavePoint, after_words, and_then, last_values, number_after, points_after, value_in, with_time}}
 use Rattle.trace_files.proofs.Fitting.{IsShort}
-use Rattle.trace_files.specs.WaveReader.{WavePoint, after_words, and_then, last_values, number_after, points_after, value_in, with_time}
 
 -- after these lines of text the points are others
 abbrev pub Reads : List ℕ → List WavePoint → List WavePoint → Type 0

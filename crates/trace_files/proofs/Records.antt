@@ -1,15 +1,9 @@
 -- The flag and the monitors see the same in the lines of a play as in its records.
 use Rattle.std.proofs.Common.{arith, ◌≡◌, ℕ, List, [], ◌∷◌, Option, map, refl, ap}
-use Rattle.bus_signals.specs.SeenRecord.{SeenRecord}
-use Rattle.bus_signals.specs.ExecFlag.{clears, starts_run, last_pc, exec}
-use Rattle.device_trace.specs.Play.{Play}
-use Rattle.device_trace.specs.Blank.{blank_record}
-use Rattle.device_trace.specs.Logs.{with_events, with_record}
-use Rattle.device_trace.specs.Start.{Start}
-use Rattle.device_trace.specs.Trace.{logs_after}
+use Rattle.bus_signals.specs.{SeenRecord.SeenRecord, ExecFlag.{clears, starts_run, last_pc, exec}}
+use Rattle.device_trace.specs.{Play.Play, Blank.blank_record, Logs.{with_events, with_record}, Start.Start, Trace.logs_after}
 use Rattle.key_isolation.proofs.SameFlag.{exec-same}
-use Rattle.trace_files.specs.Clean.{seen_in}
-use Rattle.trace_files.specs.TraceText.{next_line, trace_lines}
+use Rattle.trace_files.specs.{Clean.seen_in, TraceText.{next_line, trace_lines}}
 
 -- what a line shows of a record: the secrets are blanked, and there are no registers
 abbrev pub shown : SeenRecord → SeenRecord

@@ -2,28 +2,12 @@
 use Rattle.std.proofs.Common.{◌≡◌, ℕ, Bool, List, [], ◌∷◌, Option, map, refl, ap, sym, ◌∙◌}
 use Rattle.std.specs.Prelude.{◌&&◌}
 use Rattle.std.proofs.lemmas.Bool.{and_parts}
-use Rattle.bus_signals.specs.declared.bounds.Bounds.{Bounds}
-use Rattle.bus_signals.specs.declared.event.Event.{Event}
-use Rattle.bus_signals.specs.declared.rule.Rule.{Rule}
-use Rattle.bus_signals.specs.declared.signals.Signals.{Signals}
-use Rattle.bus_signals.specs.Kind.{is_cpu}
+use Rattle.bus_signals.specs.{declared.{bounds.Bounds.Bounds, event.Event.Event, rule.Rule.Rule, signals.Signals.Signals}, Kind.is_cpu, ExecFlag.{exec, fetches_at, last_pc}}
 use Rattle.part_definitions.specs.FirstRule.{first_rule}
-use Rattle.bus_signals.specs.ExecFlag.{exec, fetches_at, last_pc}
-use Rattle.device_trace.specs.Play.{Play}
-use Rattle.device_trace.specs.Blank.{blank_record}
-use Rattle.device_trace.specs.Logs.{Logs, exec_of, logged_bounds, with_events}
-use Rattle.device_trace.specs.Progress.{last_registers}
-use Rattle.device_trace.specs.Signals.{value_read, signals_of}
-use Rattle.device_trace.specs.Start.{Start}
-use Rattle.device_trace.specs.Step.{asks_reset, dma_value_read, record_from, record_of, next_record}
-use Rattle.device_trace.specs.Trace.{next_logs, logs_after}
-use Rattle.trace_facts.proofs.BreaksNoRule.{key_rule-none}
-use Rattle.trace_facts.proofs.OpcodeFetch.{opcode_in}
-use Rattle.trace_facts.proofs.ProperPlay.{logs_after-proper}
-use Rattle.trace_files.specs.Clean.{signals_in, seen_in, right_rule, right_exec, IsClean}
-use Rattle.trace_files.specs.TraceText.{line_with, next_line, trace_lines}
-use Rattle.trace_files.proofs.Records.{last_pc-shown, exec-shown, lines_seen}
-use Rattle.trace_files.proofs.SameSight.{SameSight, first_rule-sight, shape-told, fetches_at-told, word_told}
+use Rattle.device_trace.specs.{Play.Play, Blank.blank_record, Logs.{Logs, exec_of, logged_bounds, with_events}, Progress.last_registers, Signals.{value_read, signals_of}, Start.Start, Step.{asks_reset, dma_value_read, record_from, record_of, next_record}, Trace.{next_logs, logs_after}}
+use Rattle.trace_facts.proofs.{BreaksNoRule.key_rule-none, OpcodeFetch.opcode_in, ProperPlay.logs_after-proper}
+use Rattle.trace_files.specs.{Clean.{signals_in, seen_in, right_rule, right_exec, IsClean}, TraceText.{line_with, next_line, trace_lines}}
+use Rattle.trace_files.proofs.{Records.{last_pc-shown, exec-shown, lines_seen}, SameSight.{SameSight, first_rule-sight, shape-told, fetches_at-told, word_told}}
 
 -- what the line of a step with these signals tells
 sight : (now : Signals) (regs : List ℕ) (rule : Option Rule) (value dma_value : ℕ)

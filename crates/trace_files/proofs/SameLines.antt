@@ -1,27 +1,9 @@
 -- The lines of a play without its key.
 use Rattle.std.proofs.Common.{◌≡◌, ℕ, Bool, List, [], ◌∷◌, ◌++◌, Option, Some, None, refl, ap, sym, ◌∙◌, arith}
-use Rattle.bus_signals.specs.declared.access.Access.{Access}
-use Rattle.bus_signals.specs.declared.access.Access.TheVariants.{Fetch, Read, Write}
-use Rattle.bus_signals.specs.declared.bus_record.BusRecord.{BusRecord}
-use Rattle.bus_signals.specs.declared.event.Event.{Event}
-use Rattle.bus_signals.specs.Access.{without_number}
-use Rattle.device_trace.specs.Play.{Play}
-use Rattle.device_trace.specs.Blank.{blank_record, blank_value, touches_secrets}
-use Rattle.device_trace.specs.Logs.{Logs, exec_of, logged_bounds, with_events}
-use Rattle.device_trace.specs.Signals.{word_fetched, signals_at, signals_of}
-use Rattle.device_trace.specs.Start.{Start}
-use Rattle.device_trace.specs.Step.{asks_reset, next_record, next_signals}
-use Rattle.device_trace.specs.Trace.{next_logs, logs_after}
-use Rattle.bus_signals.specs.ExecFlag.{last_pc}
-use Rattle.trace_facts.proofs.Sound.{IsSound}
-use Rattle.trace_facts.proofs.SoundPlay.{logs_after-sound}
-use Rattle.key_isolation.proofs.Bytes.{same_if}
-use Rattle.key_isolation.proofs.FlagBlank.{exec-blank, blank_access-twice, blank_value-twice}
-use Rattle.key_isolation.proofs.Hiding.{open_start, hide, logged_bounds-hide}
-use Rattle.key_isolation.proofs.Induction.{play_hides, releases_before}
-use Rattle.key_isolation.proofs.LogsBlank.{step_hides}
-use Rattle.key_isolation.proofs.Reading.{value_read-hide}
-use Rattle.key_isolation.proofs.SignalShape.{signals_of-hide}
+use Rattle.bus_signals.specs.{declared.{access.Access.{Access, TheVariants.{Fetch, Read, Write}}, bus_record.BusRecord.BusRecord, event.Event.Event}, Access.without_number, ExecFlag.last_pc}
+use Rattle.device_trace.specs.{Play.Play, Blank.{blank_record, blank_value, touches_secrets}, Logs.{Logs, exec_of, logged_bounds, with_events}, Signals.{word_fetched, signals_at, signals_of}, Start.Start, Step.{asks_reset, next_record, next_signals}, Trace.{next_logs, logs_after}}
+use Rattle.trace_facts.proofs.{Sound.IsSound, SoundPlay.logs_after-sound}
+use Rattle.key_isolation.proofs.{Bytes.same_if, FlagBlank.{exec-blank, blank_access-twice, blank_value-twice}, Hiding.{open_start, hide, logged_bounds-hide}, Induction.{play_hides, releases_before}, LogsBlank.step_hides, Reading.value_read-hide, SignalShape.signals_of-hide}
 use Rattle.trace_files.specs.TraceText.{line_with, next_line, trace_lines, word_shown}
 
 -- the word that a line shows of a proposed access

@@ -3,29 +3,12 @@ use Rattle.std.proofs.Common.{◌≡◌, ℕ, List, [], ◌∷◌, ◌++◌, Opt
 use Rattle.std.specs.Prelude.{if◌then◌else◌}
 use Rattle.std.proofs.lemmas.Bool.Decides.{nat_tests}
 use Rattle.word_arith.specs.declared.size.Size.{Size}
-use Rattle.bus_signals.specs.declared.access.Access.{Access}
-use Rattle.bus_signals.specs.declared.access.Access.TheVariants.{Read}
-use Rattle.bus_signals.specs.declared.bus_record.BusRecord.{BusRecord}
-use Rattle.bus_signals.specs.declared.event.Event.{Event}
-use Rattle.bus_signals.specs.declared.rule.Rule.{Rule}
-use Rattle.bus_signals.specs.ExecFlag.{last_pc}
-use Rattle.part_definitions.specs.Pins.{pins_word}
-use Rattle.part_definitions.specs.Timer.{timer_flag}
-use Rattle.device_trace.specs.Blank.{blank_access, blank_value, touches_secrets}
-use Rattle.device_trace.specs.Logs.{Logs}
-use Rattle.device_trace.specs.Peripherals.{with_all_events}
-use Rattle.device_trace.specs.Play.{Play}
-use Rattle.device_trace.specs.Start.{Start}
-use Rattle.device_trace.specs.Step.{next_record}
-use Rattle.device_trace.specs.Trace.{next_logs, logs_after}
-use Rattle.trace_facts.proofs.Sound.{IsSound}
-use Rattle.trace_facts.proofs.SoundPlay.{logs_after-sound}
-use Rattle.key_isolation.proofs.Hiding.{open_start, hide, flags_of-hide, last_registers-hide}
-use Rattle.key_isolation.proofs.Induction.{play_hides, releases_before}
-use Rattle.key_isolation.proofs.LogsBlank.{step_hides}
-use Rattle.key_isolation.proofs.Projections.{byte_sent_by-blank}
-use Rattle.trace_files.specs.TraceText.{next_line}
-use Rattle.trace_files.specs.WaveSamples.{byte_received, byte_received_by, next_ports, play_state, ports_with, state_of, wave_samples}
+use Rattle.bus_signals.specs.{declared.{access.Access.{Access, TheVariants.Read}, bus_record.BusRecord.BusRecord, event.Event.Event, rule.Rule.Rule}, ExecFlag.last_pc}
+use Rattle.part_definitions.specs.{Pins.pins_word, Timer.timer_flag}
+use Rattle.device_trace.specs.{Blank.{blank_access, blank_value, touches_secrets}, Logs.Logs, Peripherals.with_all_events, Play.Play, Start.Start, Step.next_record, Trace.{next_logs, logs_after}}
+use Rattle.trace_facts.proofs.{Sound.IsSound, SoundPlay.logs_after-sound}
+use Rattle.key_isolation.proofs.{Hiding.{open_start, hide, flags_of-hide, last_registers-hide}, Induction.{play_hides, releases_before}, LogsBlank.step_hides, Projections.byte_sent_by-blank}
+use Rattle.trace_files.specs.{TraceText.next_line, WaveSamples.{byte_received, byte_received_by, next_ports, play_state, ports_with, state_of, wave_samples}}
 use Rattle.trace_files.proofs.SameLines.{next_line-hide}
 
 -- no byte is received from where a secret lies

@@ -3,19 +3,10 @@ use Rattle.std.proofs.Common.{arith, ◌≡◌, ℕ, true, false, not, Option, S
 use Rattle.std.specs.Prelude.{◌&&◌}
 use Rattle.std.proofs.lemmas.Bool.{eqb-true, cond-false}
 use Rattle.std.proofs.lemmas.Bool.Decides.{nat_tests}
-use Rattle.bus_signals.specs.declared.access.Access.{Access}
-use Rattle.bus_signals.specs.declared.access.Access.TheVariants.{Fetch, Read, Write}
-use Rattle.bus_signals.specs.declared.rule.Rule.{Rule}
-use Rattle.bus_signals.specs.declared.rule.Rule.TheVariants.{X0, I1}
-use Rattle.bus_signals.specs.declared.signals.Signals.{Signals}
-use Rattle.bus_signals.specs.Access.{some_writes, without_number}
-use Rattle.bus_signals.specs.Map.{touches, some_touches, key_region, stack_region}
+use Rattle.bus_signals.specs.{declared.{access.Access.{Access, TheVariants.{Fetch, Read, Write}}, rule.Rule.{Rule, TheVariants.{X0, I1}}, signals.Signals.Signals}, Access.{some_writes, without_number}, Map.{touches, some_touches, key_region, stack_region}, ExecFlag.fetches_at}
 use Rattle.std.specs.Option.{option_or}
-use Rattle.part_definitions.specs.FirstRule.{breaks_x0, breaks_i1, rule_where, first_rule}
-use Rattle.bus_signals.specs.ExecFlag.{fetches_at}
-use Rattle.part_definitions.specs.MonitorRule.{in_rom, key_rule, atomicity_rule}
-use Rattle.device_trace.specs.Blank.{touches_secrets, blank_access, blank_value}
-use Rattle.device_trace.specs.Step.{access_recorded}
+use Rattle.part_definitions.specs.{FirstRule.{breaks_x0, breaks_i1, rule_where, first_rule}, MonitorRule.{in_rom, key_rule, atomicity_rule}}
+use Rattle.device_trace.specs.{Blank.{touches_secrets, blank_access, blank_value}, Step.access_recorded}
 use Rattle.key_isolation.proofs.SameRule.{first_rule-same}
 
 abbrev with_dma : Signals → Option Access → Signals

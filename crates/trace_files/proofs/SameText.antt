@@ -1,15 +1,10 @@
 -- What trace and waveform show without the key, and with two keys whose released words agree.
 use Rattle.std.proofs.Common.{◌≡◌, ◌++◌, refl, ap, sym, ◌∙◌}
-use Rattle.device_trace.specs.Play.{Play}
-use Rattle.device_trace.specs.Start.{Start}
-use Rattle.device_trace.specs.Trace.{released_words}
+use Rattle.device_trace.specs.{Play.Play, Start.Start, Trace.released_words}
 use Rattle.key_isolation.specs.Agreement.{ReleaseAlike, SameButKey}
 use Rattle.key_isolation.proofs.TwoKeys.{one_keyless}
-use Rattle.trace_files.specs.KeylessLines.{HasKeylessLines, IsKeyless}
-use Rattle.trace_files.specs.TraceText.{trace_lines}
-use Rattle.trace_files.specs.WaveSamples.{wave_samples}
-use Rattle.trace_files.proofs.SameLines.{trace_lines-hide}
-use Rattle.trace_files.proofs.SameSamples.{wave_samples-hide}
+use Rattle.trace_files.specs.{KeylessLines.{HasKeylessLines, IsKeyless}, TraceText.trace_lines, WaveSamples.wave_samples}
+use Rattle.trace_files.proofs.{SameLines.trace_lines-hide, SameSamples.wave_samples-hide}
 
 pub lines_keyless : (start : Start) (play : Play) → HasKeylessLines start play
 lines_keyless start play more =

@@ -4,17 +4,8 @@ use Rattle.std.specs.Prelude.{codes, replicate, slice_index, if◌then◌else◌
 use Rattle.std.specs.List.{list_any}
 use Rattle.std.proofs.lemmas.Bool.{cases_lt, false≢true, lt-leb, not-false, or_parts}
 use Rattle.std.proofs.lemmas.List.{get_or-replicate, get_or_past}
-use Rattle.trace_files.specs.declared.sample.Sample.{Sample}
-use Rattle.trace_files.specs.declared.wire.Wire.{Wire}
-use Rattle.trace_files.specs.Wire.{wires}
-use Rattle.trace_files.specs.WireValue.{is_same_value, wire_value}
-use Rattle.trace_files.specs.WaveText.{changes_text, dump_text, end_text, is_any_told, is_told, last_shown, shown_after, state_after, step_text, steps_text, time_text, told_text, wires_text}
-use Rattle.trace_files.specs.WaveReader.{WavePoint, last_values, values_at}
-use Rattle.trace_files.specs.WaveReadBack.{AreShowable, IsShowable, ShowEnd, ShowSteps, values_of}
-use Rattle.trace_files.proofs.Fitting.{suits}
-use Rattle.trace_files.proofs.Reading.{Reads, point_at, reads_both, reads_dumpvars, reads_end, reads_nothing, reads_time}
-use Rattle.trace_files.proofs.Stages.{numbered_wires}
-use Rattle.trace_files.proofs.Changes.{reads_changes}
+use Rattle.trace_files.specs.{declared.{sample.Sample.Sample, wire.Wire.Wire}, Wire.wires, WireValue.{is_same_value, wire_value}, WaveText.{changes_text, dump_text, end_text, is_any_told, is_told, last_shown, shown_after, state_after, step_text, steps_text, time_text, told_text, wires_text}, WaveReader.{WavePoint, last_values, values_at}, WaveReadBack.{AreShowable, IsShowable, ShowEnd, ShowSteps, values_of}}
+use Rattle.trace_files.proofs.{Fitting.suits, Reading.{Reads, point_at, reads_both, reads_dumpvars, reads_end, reads_nothing, reads_time}, Stages.numbered_wires, Changes.reads_changes}
 
 -- the values of a time
 

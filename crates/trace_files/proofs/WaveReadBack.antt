@@ -5,12 +5,8 @@ use Rattle.std.specs.Str.{bytes_eq}
 use Rattle.std.specs.Str.Lines.{lines}
 use Rattle.std.proofs.Math.Seq.{drop-append_seam, take-append_seam}
 use Rattle.std.proofs.lemmas.Slice.Eq.{bytes_eq-Decides}
-use Rattle.trace_files.specs.declared.sample.Sample.{Sample}
-use Rattle.trace_files.specs.WaveText.{end_text, header, steps_text}
-use Rattle.trace_files.specs.WaveReader.{points_after, points_of}
-use Rattle.trace_files.specs.WaveReadBack.{AreShowable, WavesReadBack}
-use Rattle.trace_files.proofs.Reading.{reads_both}
-use Rattle.trace_files.proofs.Steps.{all_points, points_for, reads_ends, reads_steps, shows_end, shows_steps}
+use Rattle.trace_files.specs.{declared.sample.Sample.Sample, WaveText.{end_text, header, steps_text}, WaveReader.{points_after, points_of}, WaveReadBack.{AreShowable, WavesReadBack}}
+use Rattle.trace_files.proofs.{Reading.reads_both, Steps.{all_points, points_for, reads_ends, reads_steps, shows_end, shows_steps}}
 
 -- a text that begins as it should is read from there on
 cut : (head rest : List ℕ)

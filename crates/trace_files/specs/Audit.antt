@@ -2,11 +2,7 @@
 use Rattle.std.specs.Prelude.{◌≡◌, List, ◌∷◌, map, Result, Ok, Err}
 use Rattle.bus_signals.specs.ExecFlag.{last_pc}
 use Rattle.text_scan.specs.declared.fault_at.FaultAt.{FaultAt}
-use Rattle.trace_files.specs.declared.trace_line.TraceLine.{TraceLine}
-use Rattle.trace_files.specs.declared.audit.Audit.{Audit}
-use Rattle.trace_files.specs.declared.audited.Audited.{Audited}
-use Rattle.trace_files.specs.AuditText.{audit_of_lines}
-use Rattle.trace_files.specs.Clean.{seen_in, right_exec}
+use Rattle.trace_files.specs.{declared.{trace_line.TraceLine.TraceLine, audit.Audit.Audit, audited.Audited.Audited}, AuditText.audit_of_lines, Clean.{seen_in, right_exec}}
 
 -- the audit is as these lines, the newest first, left it
 pub record AuditStandsFor (audit : Audit) (lines : List TraceLine) : Type 0 where

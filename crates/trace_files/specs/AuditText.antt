@@ -2,15 +2,8 @@
 use Rattle.std.specs.Prelude.{ℕ, List, [], ◌∷◌, length, Option, Some, None, Result, codes}
 use Rattle.std.specs.Fmt.{decimal}
 use Rattle.printed_lines.specs.Line.{flag_digit, line_of}
-use Rattle.text_scan.specs.declared.fault_at.FaultAt.{FaultAt}
-use Rattle.text_scan.specs.Reader.{value_as}
-use Rattle.trace_files.specs.LineText.{rule_word}
-use Rattle.trace_files.specs.TraceFile.{trace_of}
-use Rattle.trace_files.specs.declared.trace_line.TraceLine.{TraceLine}
-use Rattle.trace_files.specs.declared.audited.Audited.{Audited}
-use Rattle.trace_files.specs.declared.offence.Offence.{Offence}
-use Rattle.trace_files.specs.declared.offence.Offence.TheVariants.{RuleIs, ExecIs}
-use Rattle.trace_files.specs.Offence.{first_offence}
+use Rattle.text_scan.specs.{declared.fault_at.FaultAt.FaultAt, Reader.value_as}
+use Rattle.trace_files.specs.{LineText.rule_word, TraceFile.trace_of, declared.{trace_line.TraceLine.TraceLine, audited.Audited.Audited, offence.Offence.{Offence, TheVariants.{RuleIs, ExecIs}}}, Offence.first_offence}
 
 -- how many lines these are, the newest first, and their first offence
 abbrev pub audit_of_lines : List TraceLine → Audited

@@ -1,11 +1,9 @@
 -- The lines of a play without its key.
 use Rattle.std.specs.Prelude.{◌≡◌, List}
 use Rattle.word_arith.specs.Word16.{Word16}
-use Rattle.device_trace.specs.Play.{Play}
-use Rattle.device_trace.specs.Start.{Start}
+use Rattle.device_trace.specs.{Play.Play, Start.Start}
 use Rattle.key_isolation.specs.Keyless.{keyless}
-use Rattle.trace_files.specs.TraceText.{trace_lines}
-use Rattle.trace_files.specs.WaveSamples.{wave_samples}
+use Rattle.trace_files.specs.{TraceText.trace_lines, WaveSamples.wave_samples}
 
 -- the trace lines of a play, so its trace file, and what its waveform shows are those that it has
 -- without the key, where the calls release the same words

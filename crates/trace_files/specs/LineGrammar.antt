@@ -1,21 +1,11 @@
 -- The grammar of a trace line: what it says, and its first fault.
 use Rattle.std.specs.Prelude.{ℕ, ◌==◌, ◌%◌, Bool, true, List, take, drop, slice_index, if◌then◌else◌, Option, Some, None, Result, Ok, Err, codes}
 use Rattle.std.specs.Str.{bytes_eq}
-use Rattle.word_arith.specs.declared.size.Size.{Size}
-use Rattle.word_arith.specs.declared.size.Size.TheVariants.{Byte, Word}
-use Rattle.bus_signals.specs.declared.access.Access.{Access}
-use Rattle.bus_signals.specs.declared.access.Access.TheVariants.{Fetch, Read, Write}
-use Rattle.bus_signals.specs.declared.bounds.Bounds.{Bounds}
-use Rattle.bus_signals.specs.declared.rule.Rule.{Rule}
-use Rattle.bus_signals.specs.Kind.{kind_names}
-use Rattle.bus_signals.specs.Rule.{rule_names}
+use Rattle.word_arith.specs.{declared.size.Size.{Size, TheVariants.{Byte, Word}}}
+use Rattle.bus_signals.specs.{declared.{access.Access.{Access, TheVariants.{Fetch, Read, Write}}, bounds.Bounds.Bounds, rule.Rule.Rule}, Kind.kind_names, Rule.rule_names}
 use Rattle.named_value.specs.Names.{value_named}
-use Rattle.text_scan.specs.declared.fault_kind.FaultKind.{FaultKind}
+use Rattle.text_scan.specs.{declared.fault_kind.FaultKind.FaultKind, Hexadecimal.{hex_bytes_of, hex_word_of}, Reader.◌>>=◌, Word.{next_word, keyword_of, end_of}, WordValue.{number_of, place_of, or_word, value_of}}
 use Rattle.text_scan.specs.declared.fault_kind.FaultKind.TheVariants as faults
-use Rattle.text_scan.specs.Hexadecimal.{hex_bytes_of, hex_word_of}
-use Rattle.text_scan.specs.Reader.{◌>>=◌}
-use Rattle.text_scan.specs.Word.{next_word, keyword_of, end_of}
-use Rattle.text_scan.specs.WordValue.{number_of, place_of, or_word, value_of}
 use Rattle.trace_files.specs.declared.trace_line.TraceLine.{TraceLine}
 
 -- the last number that a step can have in a trace file

@@ -1,15 +1,9 @@
 -- The text of a line is read as that line.
 use Rattle.std.specs.Prelude.{◌≡◌, ◌<◌, ◌≤◌, ◌^◌, ℕ, List, [], ◌∷◌, length, codes, IfSome, Ok}
-use Rattle.bus_signals.specs.declared.access.Access.{Access}
-use Rattle.bus_signals.specs.declared.access.Access.TheVariants.{Fetch, Read, Write}
-use Rattle.bus_signals.specs.Access.{IsFormed}
-use Rattle.bus_signals.specs.Bounds.{AreWords}
+use Rattle.bus_signals.specs.{declared.access.Access.{Access, TheVariants.{Fetch, Read, Write}}, Access.IsFormed, Bounds.AreWords}
 use Rattle.printed_lines.specs.Line.{with_pieces}
 use Rattle.text_scan.specs.Word.{words_of}
-use Rattle.trace_files.specs.declared.trace_line.TraceLine.{TraceLine}
-use Rattle.trace_files.specs.LineGrammar.{trace_line_of}
-use Rattle.trace_files.specs.LineText.{line_pieces, file_text}
-use Rattle.trace_files.specs.TraceFile.{trace_of}
+use Rattle.trace_files.specs.{declared.trace_line.TraceLine.TraceLine, LineGrammar.trace_line_of, LineText.{line_pieces, file_text}, TraceFile.trace_of}
 
 -- the numbers of an access are words
 abbrev pub HasWords : Access → Type 0

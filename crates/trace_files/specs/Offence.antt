@@ -2,11 +2,7 @@
 use Rattle.std.specs.Prelude.{◌≡◌, ◌↔◌, ℕ, Bool, true, false, not, List, [], ◌∷◌, length, Option, Some, None, if◌then◌else◌}
 use Rattle.std.specs.Str.{bytes_eq}
 use Rattle.bus_signals.specs.declared.rule.Rule.{Rule}
-use Rattle.trace_files.specs.LineText.{rule_word}
-use Rattle.trace_files.specs.declared.trace_line.TraceLine.{TraceLine}
-use Rattle.trace_files.specs.declared.offence.Offence.{Offence}
-use Rattle.trace_files.specs.declared.offence.Offence.TheVariants.{RuleIs, ExecIs}
-use Rattle.trace_files.specs.Clean.{right_rule, right_exec, IsClean}
+use Rattle.trace_files.specs.{LineText.rule_word, declared.{trace_line.TraceLine.TraceLine, offence.Offence.{Offence, TheVariants.{RuleIs, ExecIs}}}, Clean.{right_rule, right_exec, IsClean}}
 
 -- rules are told apart by their words
 abbrev pub is_same_rule : Option Rule → Option Rule → Bool

@@ -1,11 +1,7 @@
 -- A trace file: the lines of its steps, or its first fault.
 use Rattle.std.specs.Prelude.{ℕ, Bool, true, false, List, [], ◌∷◌, length, if◌then◌else◌, Result, Ok}
-use Rattle.text_scan.specs.declared.fault_at.FaultAt.{FaultAt}
-use Rattle.text_scan.specs.Line.{text_lines}
-use Rattle.text_scan.specs.Reader.{◌>>=◌, in_line}
-use Rattle.text_scan.specs.Word.{words_of}
-use Rattle.trace_files.specs.declared.trace_line.TraceLine.{TraceLine}
-use Rattle.trace_files.specs.LineGrammar.{trace_line_of}
+use Rattle.text_scan.specs.{declared.fault_at.FaultAt.FaultAt, Line.text_lines, Reader.{◌>>=◌, in_line}, Word.words_of}
+use Rattle.trace_files.specs.{declared.trace_line.TraceLine.TraceLine, LineGrammar.trace_line_of}
 
 abbrev pub is_empty : List ℕ → Bool
 is_empty [] = true

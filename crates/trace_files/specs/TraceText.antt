@@ -1,17 +1,8 @@
 -- The trace file of a play: a line for each step, with the secrets blanked.
 use Rattle.std.specs.Prelude.{ℕ, Bool, List, [], ◌∷◌, Option, Some, None}
-use Rattle.bus_signals.specs.declared.bounds.Bounds.{Bounds}
-use Rattle.bus_signals.specs.declared.bus_record.BusRecord.{BusRecord}
-use Rattle.bus_signals.specs.declared.event.Event.{Event}
-use Rattle.bus_signals.specs.declared.signals.Signals.{Signals}
-use Rattle.device_trace.specs.Play.{Play}
-use Rattle.device_trace.specs.Blank.{blank_record, blank_value}
-use Rattle.device_trace.specs.Logs.{Logs, exec_of, logged_bounds}
-use Rattle.device_trace.specs.Start.{Start}
-use Rattle.device_trace.specs.Step.{next_record, next_signals}
-use Rattle.device_trace.specs.Trace.{next_logs, logs_after}
-use Rattle.trace_files.specs.declared.trace_line.TraceLine.{TraceLine}
-use Rattle.trace_files.specs.LineText.{file_text}
+use Rattle.bus_signals.specs.{declared.{bounds.Bounds.Bounds, bus_record.BusRecord.BusRecord, event.Event.Event, signals.Signals.Signals}}
+use Rattle.device_trace.specs.{Play.Play, Blank.{blank_record, blank_value}, Logs.{Logs, exec_of, logged_bounds}, Start.Start, Step.{next_record, next_signals}, Trace.{next_logs, logs_after}}
+use Rattle.trace_files.specs.{declared.trace_line.TraceLine.TraceLine, LineText.file_text}
 
 -- the word that a proposed fetch would read, 0 where it touches the key or the exclusive stack
 abbrev pub word_shown : Signals → ℕ

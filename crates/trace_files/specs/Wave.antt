@@ -1,8 +1,6 @@
 -- Which steps a waveform that is being written has told.
 use Rattle.std.specs.Prelude.{◌≡◌, ℕ, List, length}
-use Rattle.trace_files.specs.declared.sample.Sample.{Sample}
-use Rattle.trace_files.specs.declared.wave.Wave.{Wave}
-use Rattle.trace_files.specs.WaveText.{exec_after, last_shown, state_after}
+use Rattle.trace_files.specs.{declared.{sample.Sample.Sample, wave.Wave.Wave}, WaveText.{exec_after, last_shown, state_after}}
 
 -- how many it has told
 abbrev pub steps_told : Wave → ℕ

@@ -1,11 +1,6 @@
 -- A waveform is read as the steps that it was written of.
 use Rattle.std.specs.Prelude.{◌≡◌, ◌<◌, ◌^◌, ℕ, List, [], ◌∷◌, length, map, Option, Some, IfSome, slice_index}
-use Rattle.trace_files.specs.declared.sample.Sample.{Sample}
-use Rattle.trace_files.specs.LineReadBack.{IsPrintable}
-use Rattle.trace_files.specs.Wire.{wires}
-use Rattle.trace_files.specs.WireValue.{wire_value}
-use Rattle.trace_files.specs.WaveText.{shown_after, wave_file}
-use Rattle.trace_files.specs.WaveReader.{WavePoint, points_of, values_at}
+use Rattle.trace_files.specs.{declared.sample.Sample.Sample, LineReadBack.IsPrintable, Wire.wires, WireValue.wire_value, WaveText.{shown_after, wave_file}, WaveReader.{WavePoint, points_of, values_at}}
 
 -- the values that a step has on the wires
 abbrev pub values_of : Sample → List (Option ℕ)

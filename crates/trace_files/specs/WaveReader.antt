@@ -4,11 +4,8 @@ use Rattle.std.specs.Str.{bytes_eq}
 use Rattle.std.specs.Str.Lines.{lines}
 use Rattle.std.specs.Option.{option_map}
 use Rattle.std.specs.Result.{result_ok}
-use Rattle.text_scan.specs.Decimal.{decimal_of}
-use Rattle.text_scan.specs.Word.{words_of}
-use Rattle.trace_files.specs.declared.wire.Wire.{Wire}
-use Rattle.trace_files.specs.Wire.{wires, wire_code}
-use Rattle.trace_files.specs.WaveText.{header}
+use Rattle.text_scan.specs.{Decimal.decimal_of, Word.words_of}
+use Rattle.trace_files.specs.{declared.wire.Wire.Wire, Wire.{wires, wire_code}, WaveText.header}
 
 -- the values of the wires in their order, from a time on; nothing where nothing drives one
 pub record WavePoint : Type 0 where

@@ -1,28 +1,10 @@
 -- What a waveform shows of each step of a play.
 use Rattle.std.specs.Prelude.{◌%◌, ℕ, List, [], ◌∷◌, Option, Some, None, if◌then◌else◌}
-use Rattle.word_arith.specs.declared.size.Size.{Size}
-use Rattle.word_arith.specs.declared.size.Size.TheVariants.{Word}
-use Rattle.bus_signals.specs.Address.{Address}
-use Rattle.bus_signals.specs.declared.access.Access.{Access}
-use Rattle.bus_signals.specs.declared.access.Access.TheVariants.{Fetch, Read}
-use Rattle.bus_signals.specs.declared.bus_record.BusRecord.{BusRecord}
-use Rattle.bus_signals.specs.declared.event.Event.{Event}
-use Rattle.bus_signals.specs.declared.rule.Rule.{Rule}
-use Rattle.part_definitions.specs.Pins.{pins_word}
-use Rattle.part_definitions.specs.Serial.{takes_byte}
-use Rattle.part_definitions.specs.Timer.{timer_flag}
-use Rattle.device_trace.specs.Logs.{Logs, aux_of}
-use Rattle.device_trace.specs.Peripherals.{with_all_events}
-use Rattle.device_trace.specs.Play.{Play}
-use Rattle.device_trace.specs.Progress.{last_registers}
-use Rattle.device_trace.specs.Start.{Start}
-use Rattle.device_trace.specs.Step.{next_record}
-use Rattle.device_trace.specs.Text.{byte_sent_in}
-use Rattle.device_trace.specs.Trace.{logs_after}
-use Rattle.trace_files.specs.declared.ports.Ports.{Ports}
-use Rattle.trace_files.specs.declared.sample.Sample.{Sample}
-use Rattle.trace_files.specs.declared.state.State.{State}
-use Rattle.trace_files.specs.TraceText.{next_line}
+use Rattle.word_arith.specs.{declared.size.Size.{Size, TheVariants.Word}}
+use Rattle.bus_signals.specs.{Address.Address, declared.{access.Access.{Access, TheVariants.{Fetch, Read}}, bus_record.BusRecord.BusRecord, event.Event.Event, rule.Rule.Rule}}
+use Rattle.part_definitions.specs.{Pins.pins_word, Serial.takes_byte, Timer.timer_flag}
+use Rattle.device_trace.specs.{Logs.{Logs, aux_of}, Peripherals.with_all_events, Play.Play, Progress.last_registers, Start.Start, Step.next_record, Text.byte_sent_in, Trace.logs_after}
+use Rattle.trace_files.specs.{declared.{ports.Ports.Ports, sample.Sample.Sample, state.State.State}, TraceText.next_line}
 
 -- the byte of a read that takes one from the serial port; 0 where none waited
 abbrev pub byte_received : Address → Size → ℕ → Option ℕ

@@ -3,11 +3,7 @@
 use Rattle.std.specs.Prelude.{◌++◌, ◌==◌, ℕ, Bool, true, false, not, List, [], ◌∷◌, length, replicate, Option, Some, None, if◌then◌else◌, codes}
 use Rattle.std.specs.Fmt.{decimal, digits}
 use Rattle.std.specs.List.{flat_map, list_any}
-use Rattle.trace_files.specs.declared.sample.Sample.{Sample}
-use Rattle.trace_files.specs.declared.state.State.{State}
-use Rattle.trace_files.specs.declared.wire.Wire.{Wire}
-use Rattle.trace_files.specs.Wire.{wires, wire_name, wire_width, wire_code}
-use Rattle.trace_files.specs.WireValue.{wire_value, is_same_value}
+use Rattle.trace_files.specs.{declared.{sample.Sample.Sample, state.State.State, wire.Wire.Wire}, Wire.{wires, wire_name, wire_width, wire_code}, WireValue.{wire_value, is_same_value}}
 
 abbrev pub is_bit : Wire → Bool
 is_bit wire = wire_width wire == 1

@@ -1,7 +1,5 @@
 ghost use Rattle.std.specs.Prelude.{◌≡◌, ◌∷◌, [], List};
-ghost use Rattle.trace_files.specs.declared.trace_line.TraceLine.{TraceLine};
-ghost use Rattle.trace_files.specs.Clean.{right_rule, right_exec};
-ghost use Rattle.trace_files.specs.Offence.{offence_of, difference};
+ghost use Rattle.trace_files.specs.{declared.trace_line.TraceLine.TraceLine, Clean.{right_rule, right_exec}, Offence.{offence_of, difference}};
 
 use crate::offence::Offence;
 use crate::rule::first_rule;

@@ -2,8 +2,7 @@ ghost use Rattle.std.specs.Prelude.{◌≡◌, ◌≤◌, ◌+◌, ◌++◌, tru
 ghost use Rattle.std.specs.Fmt.{digits};
 ghost use Rattle.outside_edge.specs.Sink.{Puts, CountsFaults};
 ghost use Rattle.line_buffer.specs.declared.line_buffer.TheConstants.{ROOM};
-ghost use Rattle.trace_files.specs.Wire.{flag_wires, other_wires, port_wires, register_wires, state_wires, wires};
-ghost use Rattle.trace_files.specs.WaveText.{change_of, change_text, changes_text, digits_text, dump_text, is_any_told, is_told, next_text, step_text, time_text, told_text, wires_text};
+ghost use Rattle.trace_files.specs.{Wire.{flag_wires, other_wires, port_wires, register_wires, state_wires, wires}, WaveText.{change_of, change_text, changes_text, digits_text, dump_text, is_any_told, is_told, next_text, step_text, time_text, told_text, wires_text}};
 
 use crate::sample::Sample;
 use crate::shown_value::wire_value;

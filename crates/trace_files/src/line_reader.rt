@@ -1,9 +1,7 @@
 ghost use Rattle.std.specs.Prelude.{◌≡◌, ◌<◌, ◌^◌, take, drop, IfOk, IfSome};
 ghost use Rattle.bus_signals.specs.Access.{IsFormed};
 ghost use Rattle.word_arith.specs.declared.size.Size.TheVariants.{Byte};
-ghost use Rattle.text_scan.specs.Hexadecimal.{hex_bytes_of};
-ghost use Rattle.text_scan.specs.Reader.{ReadsOn};
-ghost use Rattle.text_scan.specs.Word.{words_of};
+ghost use Rattle.text_scan.specs.{Hexadecimal.hex_bytes_of, Reader.ReadsOn, Word.words_of};
 ghost use Rattle.trace_files.specs.LineGrammar.{number_of_bytes, is_even_if, fetch_in, read_in, written_in, write_in, access_by, access_in, rule_in, named_of, flag_of, bounds_of, fields_of, trace_line_of};
 
 use crate::trace_line::TraceLine;

@@ -1,9 +1,6 @@
-ghost use Rattle.device_trace.specs.Play.{Play};
-ghost use Rattle.device_trace.specs.Start.{Start};
+ghost use Rattle.device_trace.specs.{Play.Play, Start.Start};
 ghost use Rattle.key_isolation.specs.Agreement.{ReleaseAlike, SameButKey};
-ghost use Rattle.trace_files.specs.Clean.{IsClean};
-ghost use Rattle.trace_files.specs.KeylessLines.{HasKeylessLines, IsKeyless};
-ghost use Rattle.trace_files.specs.TraceText.{trace_lines};
+ghost use Rattle.trace_files.specs.{Clean.IsClean, KeylessLines.{HasKeylessLines, IsKeyless}, TraceText.trace_lines};
 
 /// The lines of every play are clean: each names the first rule that its step breaks, as far as the
 /// line itself and the one before it tell, and the EXEC flag over the lines up to it.

@@ -1,8 +1,6 @@
 ghost use Rattle.std.specs.Prelude.{◌≡◌, ◌&&◌, ◌||◌, true, false};
-ghost use Rattle.bus_signals.specs.Access.{some_writes, some_reads};
-ghost use Rattle.part_definitions.specs.FirstRule.{first_rule, breaks_i1};
-ghost use Rattle.part_definitions.specs.MonitorRule.{key_rule, atomicity_rule, in_rom, was_inside, leaves_stack_and_mac};
-ghost use Rattle.bus_signals.specs.Map.{some_touches, key_region, stack_region};
+ghost use Rattle.bus_signals.specs.{Access.{some_writes, some_reads}, Map.{some_touches, key_region, stack_region}};
+ghost use Rattle.part_definitions.specs.{FirstRule.{first_rule, breaks_i1}, MonitorRule.{key_rule, atomicity_rule, in_rom, was_inside, leaves_stack_and_mac}};
 ghost use Rattle.trace_files.specs.Clean.{signals_in};
 
 use crate::span::{KEY, MAC, STACK, is_rom};

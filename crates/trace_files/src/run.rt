@@ -1,11 +1,7 @@
 ghost use Rattle.std.specs.Prelude.{◌≡◌, ◌+◌, ◌%◌, ◌<◌, ◌==◌, is_some, option_to_list};
-ghost use Rattle.bus_signals.specs.Bounds.{is_disjoint, unwrapped_region, are_valid, is_valid_region, executable_region, output_region};
-ghost use Rattle.bus_signals.specs.Map.{metadata_region};
+ghost use Rattle.bus_signals.specs.{Bounds.{is_disjoint, unwrapped_region, are_valid, is_valid_region, executable_region, output_region}, Map.metadata_region, ExecFlag.{clears, starts_run, ran_inside, ran_at, fetches_outside}};
 ghost use Rattle.std.specs.List.{list_any};
-ghost use Rattle.bus_signals.specs.ExecFlag.{clears, starts_run, ran_inside, ran_at, fetches_outside};
-ghost use Rattle.trace_files.specs.Span.{region_of};
-ghost use Rattle.trace_files.specs.Disturbance.{disturbs_run, disturbs_rest};
-ghost use Rattle.trace_files.specs.Clean.{seen_in};
+ghost use Rattle.trace_files.specs.{Span.region_of, Disturbance.{disturbs_run, disturbs_rest}, Clean.seen_in};
 
 use crate::rule::is_write;
 use crate::span::{MAC, METADATA, Span};

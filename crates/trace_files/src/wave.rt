@@ -1,7 +1,6 @@
 ghost use Rattle.std.specs.Prelude.{◌≡◌, ◌<◌, ◌^◌, ◌+◌, ◌∷◌, [], List, length};
 ghost use Rattle.outside_edge.specs.Sink.{Puts, CountsFaults};
-ghost use Rattle.trace_files.specs.declared.sample.Sample.{Sample};
-ghost use Rattle.trace_files.specs.WaveText.{end_text, header, last_shown, shown_after, step_text};
+ghost use Rattle.trace_files.specs.{declared.sample.Sample.Sample, WaveText.{end_text, header, last_shown, shown_after, step_text}};
 
 use crate::change::{print_step, print_told};
 use crate::header::print_header;

@@ -1,6 +1,5 @@
 ghost use Rattle.std.specs.Prelude.{◌≡◌};
-ghost use Rattle.trace_files.specs.Wire.{wire_code};
-ghost use Rattle.trace_files.specs.WaveText.{is_bit};
+ghost use Rattle.trace_files.specs.{Wire.wire_code, WaveText.is_bit};
 
 /// A wire of the waveform. The bits of `StepKind`, `BrokenRule` and the two operations are
 /// characters.

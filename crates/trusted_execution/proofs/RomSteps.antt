@@ -3,16 +3,9 @@ use Rattle.std.proofs.Common.{◌≡◌, ℕ, true, false, not, List, ◌∷◌,
 use Rattle.std.specs.List.{list_any}
 use Rattle.std.proofs.lemmas.Bool.{and_left, or_from}
 use Rattle.std.proofs.lemmas.Bool.Decides.{nat_tests}
-use Rattle.bus_signals.specs.declared.access.Access.{Access}
-use Rattle.bus_signals.specs.Access.{bytes_of}
-use Rattle.bus_signals.specs.Bounds.{are_valid}
-use Rattle.bus_signals.specs.Map.{lies_in, touches, vector_region}
-use Rattle.bus_signals.specs.SeenRecord.{SeenRecord}
-use Rattle.bus_signals.specs.ExecFlag.{last_pc, runs_inside, records_since}
-use Rattle.part_definitions.specs.MonitorRule.{in_rom, is_written_by_rom}
-use Rattle.part_definitions.specs.TrustedFlag.{aux, clears_aux, clears_f3, clears_f4, clears_f10}
-use Rattle.mac_coverage.proofs.ExecKept.{IsRomStep, rom_step-outside, rom_step-apart, rom_step-keeps_both, rom_step-starts_none, kept_flag}
-use Rattle.mac_coverage.proofs.ValidPlaces.{none_elsewhere}
+use Rattle.bus_signals.specs.{declared.access.Access.Access, Access.bytes_of, Bounds.are_valid, Map.{lies_in, touches, vector_region}, SeenRecord.SeenRecord, ExecFlag.{last_pc, runs_inside, records_since}}
+use Rattle.part_definitions.specs.{MonitorRule.{in_rom, is_written_by_rom}, TrustedFlag.{aux, clears_aux, clears_f3, clears_f4, clears_f10}}
+use Rattle.mac_coverage.proofs.{ExecKept.{IsRomStep, rom_step-outside, rom_step-apart, rom_step-keeps_both, rom_step-starts_none, kept_flag}, ValidPlaces.none_elsewhere}
 
 vectors_unwritten : (place : ℕ) → is_written_by_rom place ≡ true
     → lies_in vector_region place ≡ false

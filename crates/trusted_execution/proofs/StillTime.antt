@@ -2,35 +2,13 @@
 use Rattle.std.proofs.Common.{not, ◌≡◌, ◌&&◌, ℕ, Bool, true, false, List, [], ◌∷◌, inl, inr, Option, Some, None, map, refl, ap, sym, ◌∙◌, subst, is_some, arith}
 use Rattle.std.specs.Prelude.{◌==◌, is_none}
 use Rattle.std.proofs.lemmas.Bool.{cond_both, cond-true, and_left, and_right, and_parts, eq-eqb}
-use Rattle.bus_signals.specs.declared.access.Access.{Access}
-use Rattle.bus_signals.specs.declared.bus_record.BusRecord.{BusRecord}
-use Rattle.bus_signals.specs.declared.kind.Kind.TheVariants.{Rom}
-use Rattle.bus_signals.specs.Access.{some_writes}
-use Rattle.bus_signals.specs.Bounds.{are_valid}
-use Rattle.bus_signals.specs.Kind.{is_rom}
-use Rattle.bus_signals.specs.Map.{ROM_ENTRY}
-use Rattle.bus_signals.specs.Report.{ReportFields}
-use Rattle.bus_signals.specs.SeenRecord.{SeenRecord, SeenHistory}
-use Rattle.bus_signals.specs.ExecFlag.{last_pc}
-use Rattle.part_definitions.specs.MonitorRule.{leaves_stack_and_mac}
-use Rattle.part_definitions.specs.TrustedFlag.{aux}
+use Rattle.bus_signals.specs.{declared.{access.Access.Access, bus_record.BusRecord.BusRecord, kind.Kind.TheVariants.Rom}, Access.some_writes, Bounds.are_valid, Kind.is_rom, Map.ROM_ENTRY, Report.ReportFields, SeenRecord.{SeenRecord, SeenHistory}, ExecFlag.last_pc}
+use Rattle.part_definitions.specs.{MonitorRule.leaves_stack_and_mac, TrustedFlag.aux}
 use Rattle.part_definitions.proofs.CallItems.{first_pc}
-use Rattle.device_trace.specs.Play.{Play}
-use Rattle.device_trace.specs.Blank.{blank_access, blank_record, blank_seen}
-use Rattle.device_trace.specs.Logs.{Logs, aux_of, goes_on_in_call, records_until_call, logged_bounds, vector_of, step_progress, with_events, with_record}
-use Rattle.device_trace.specs.Progress.{Progress, Held, Runs, InCall, next_pc_of}
-use Rattle.device_trace.specs.Signals.{step_kind}
-use Rattle.device_trace.specs.Start.{Start}
-use Rattle.device_trace.specs.Step.{record_of, asks_reset, next_record}
-use Rattle.device_trace.specs.Text.{last_report, last_decision, last_denial}
-use Rattle.device_trace.specs.Trace.{logs_after, trace}
-use Rattle.device_trace.specs.RegionRun.{TrustedInterrupts, TrustedRun}
-use Rattle.mac_coverage.proofs.ExecKept.{IsRomStep}
-use Rattle.mac_coverage.proofs.Plays.{rom_kind, record_of-on_call}
-use Rattle.mac_coverage.proofs.Steps.{rom_step-of_call, OnCall, record_of-call, record_of-kind, record_of-pc, IsInRom}
+use Rattle.device_trace.specs.{Play.Play, Blank.{blank_access, blank_record, blank_seen}, Logs.{Logs, aux_of, goes_on_in_call, records_until_call, logged_bounds, vector_of, step_progress, with_events, with_record}, Progress.{Progress, Held, Runs, InCall, next_pc_of}, Signals.step_kind, Start.Start, Step.{record_of, asks_reset, next_record}, Text.{last_report, last_decision, last_denial}, Trace.{logs_after, trace}, RegionRun.{TrustedInterrupts, TrustedRun}}
+use Rattle.mac_coverage.proofs.{ExecKept.IsRomStep, Plays.{rom_kind, record_of-on_call}, Steps.{rom_step-of_call, OnCall, record_of-call, record_of-kind, record_of-pc, IsInRom}}
 use Rattle.proof_of_execution.proofs.Plays.{play_state, finished-run, report-run, denied_where}
-use Rattle.trusted_execution.specs.SeenFlag.{aux_seen}
-use Rattle.trusted_execution.specs.TrustedCall.{AuxAfterCallMeansTrustedRun}
+use Rattle.trusted_execution.specs.{SeenFlag.aux_seen, TrustedCall.AuxAfterCallMeansTrustedRun}
 use Rattle.trusted_execution.proofs.RomSteps.{aux-rom_step}
 use Rattle.trace_facts.proofs.BlankRecords.{last_pc-blank}
 

@@ -1,11 +1,6 @@
 -- What AUX says after a call.
 use Rattle.std.specs.Prelude.{◌≡◌, ℕ, IsTrue, Some}
-use Rattle.device_trace.specs.Logs.{aux_of, logged_bounds}
-use Rattle.device_trace.specs.Play.{Play}
-use Rattle.device_trace.specs.Start.{Start}
-use Rattle.device_trace.specs.Text.{last_decision}
-use Rattle.device_trace.specs.Trace.{logs_after, trace}
-use Rattle.device_trace.specs.RegionRun.{TrustedRun}
+use Rattle.device_trace.specs.{Logs.{aux_of, logged_bounds}, Play.Play, Start.Start, Text.last_decision, Trace.{logs_after, trace}, RegionRun.TrustedRun}
 
 -- where the last step finishes a call, whatever it decides, AUX 1 after it means a trusted run
 abbrev pub AuxAfterCallMeansTrustedRun : Start → Play → Type 0

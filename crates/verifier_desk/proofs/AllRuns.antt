@@ -1,9 +1,7 @@
 -- The memory has the last entry of each device after its lines of all runs.
 use Rattle.std.proofs.Common.{◌≡◌, ◌∙◌, ℕ, List, [], ◌∷◌, ◌++◌, Option, refl, ap, sym}
 use Rattle.desk_memory.specs.Entry.{Entry, last_in}
-use Rattle.verifier_desk.specs.Judged.{JudgedLine, entry_after, entry_through}
-use Rattle.verifier_desk.specs.Law.{judged_lines}
-use Rattle.verifier_desk.specs.Run.{IsOfAllRuns, lines_through}
+use Rattle.verifier_desk.specs.{Judged.{JudgedLine, entry_after, entry_through}, Law.judged_lines, Run.{IsOfAllRuns, lines_through}}
 use Rattle.verifier_desk.proofs.Remembered.{memory_has_states}
 
 pub entry_through-append : (name : List ℕ) (start : Option Entry) (later earlier : List JudgedLine)

@@ -4,28 +4,12 @@ use Rattle.std.specs.Prelude.{OnOk, Result}
 use Rattle.std.proofs.lemmas.List.{append-nil}
 use Rattle.outside_edge.specs.declared.sink.Sink as sink
 use Rattle.outside_edge.specs.declared.source.Source as source
-use Rattle.source_server.specs.declared.halt.Halt.{Halt}
+use Rattle.source_server.specs.{declared.{halt.Halt.Halt, lines.Lines.Lines, served.Served.{Served, TheVariants.Own}}, LineResponder.Settles, Lines.promise_of, Responder.Moment, Serving.Serves}
 use Rattle.source_server.specs.declared.halt.Halt.TheVariants as halt
-use Rattle.source_server.specs.declared.lines.Lines.{Lines}
-use Rattle.source_server.specs.declared.served.Served.{Served}
-use Rattle.source_server.specs.declared.served.Served.TheVariants.{Own}
-use Rattle.source_server.specs.LineResponder.{Settles}
-use Rattle.source_server.specs.Lines.{promise_of}
-use Rattle.source_server.specs.Responder.{Moment}
-use Rattle.source_server.specs.Serving.{Serves}
 use Rattle.source_server.proofs.ServedPieces.{none_served, serves_as}
 use Rattle.desk_memory.specs.declared.memory.Memory as memory
-use Rattle.verifier_desk.specs.declared.answer_fault.AnswerFault.{AnswerFault}
-use Rattle.verifier_desk.specs.declared.answer_fault.AnswerFault.TheVariants.{Memory}
-use Rattle.verifier_desk.specs.declared.desk.Desk.{Desk}
-use Rattle.verifier_desk.specs.declared.desk_responder.DeskResponder.{DeskResponder}
-use Rattle.verifier_desk.specs.Desk.{DeskStandsFor, no_lines_of}
-use Rattle.verifier_desk.specs.Replies.{DeskFields, lines_said}
-use Rattle.verifier_desk.specs.Serving.{HasAnswered, Keeps, Outside, desk_promise}
-use Rattle.verifier_desk.specs.Telling.{PutsHeld, lines_promise, outside_at}
-use Rattle.verifier_desk.specs.Withheld.{nothing_withheld}
-use Rattle.verifier_desk.proofs.HeldReplies.{answered_of_told, stops_of_fails, told_anew}
-use Rattle.verifier_desk.proofs.MoreLines.{grows_self}
+use Rattle.verifier_desk.specs.{declared.{answer_fault.AnswerFault.{AnswerFault, TheVariants.Memory}, desk.Desk.Desk, desk_responder.DeskResponder.DeskResponder}, Desk.{DeskStandsFor, no_lines_of}, Replies.{DeskFields, lines_said}, Serving.{HasAnswered, Keeps, Outside, desk_promise}, Telling.{PutsHeld, lines_promise, outside_at}, Withheld.nothing_withheld}
+use Rattle.verifier_desk.proofs.{HeldReplies.{answered_of_told, stops_of_fails, told_anew}, MoreLines.grows_self}
 
 module _ {M W : Type 0} (m : memory.Ghosts M) (w : sink.Ghosts W) (first : Outside M W)
     (fields : DeskFields) where

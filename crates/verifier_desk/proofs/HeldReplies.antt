@@ -4,32 +4,13 @@ use Rattle.std.specs.Prelude.{◌||◌, if◌then◌else◌, nat_lt, OnOk, Resul
 use Rattle.std.proofs.Math.Bool.{or-false}
 use Rattle.std.proofs.lemmas.List.{append-nil, take-append-drop}
 use Rattle.text_scan.specs.Word.{words_of}
-use Rattle.outside_edge.specs.Sink.{Takes, TakesPrefix}
-use Rattle.outside_edge.specs.Count.{Rose}
+use Rattle.outside_edge.specs.{Sink.{Takes, TakesPrefix}, Count.Rose}
 use Rattle.outside_edge.specs.declared.sink.Sink as sink
-use Rattle.outside_edge.proofs.SinkLemmas.{takes_both}
-use Rattle.source_server.specs.declared.halt.Halt.{Halt}
-use Rattle.source_server.specs.declared.halt.Halt.TheVariants.{Write, Own}
-use Rattle.source_server.specs.HeldLine.{LONGEST_LINE, short_line}
-use Rattle.outside_edge.proofs.Counts.{rose_since}
+use Rattle.outside_edge.proofs.{SinkLemmas.takes_both, Counts.rose_since}
+use Rattle.source_server.specs.{declared.halt.Halt.{Halt, TheVariants.{Write, Own}}, HeldLine.{LONGEST_LINE, short_line}}
 use Rattle.desk_memory.specs.declared.memory.Memory as memory
-use Rattle.desk_memory.specs.declared.memory_fault.MemoryFault.{MemoryFault}
-use Rattle.desk_memory.specs.Entry.{Entry}
-use Rattle.desk_memory.specs.Kept.{LeavesOr}
-use Rattle.verifier_desk.specs.declared.answer_fault.AnswerFault.{AnswerFault}
-use Rattle.verifier_desk.specs.declared.answer_fault.AnswerFault.TheVariants.{Memory, Unkept}
-use Rattle.verifier_desk.specs.declared.desk.Desk.{Desk}
-use Rattle.verifier_desk.specs.Answering.{Answers, OnlyNotes}
-use Rattle.verifier_desk.specs.Desk.{DeskStandsFor}
-use Rattle.verifier_desk.specs.DeskLine.{DeskLine, TooLong, desk_line_of, desk_line_of_words}
-use Rattle.verifier_desk.specs.DeviceKey.{DeviceKey}
-use Rattle.verifier_desk.specs.Noted.{entries_after, noted_of, with_noted}
-use Rattle.verifier_desk.specs.Replies.{DeskFields, lines_said, replies, reply, reply_to}
-use Rattle.verifier_desk.specs.Reply.{ReplyFields}
-use Rattle.verifier_desk.specs.Standing.{with_said}
-use Rattle.verifier_desk.specs.Serving.{HasAnswered, HasFailed, HasPut, Keeps, Outside, StopsAt}
-use Rattle.verifier_desk.specs.Telling.{FailsAt, Grows, PutsHeld, TellsLines, Told}
-use Rattle.verifier_desk.specs.Withheld.{Withheld, nothing_withheld}
+use Rattle.desk_memory.specs.{declared.memory_fault.MemoryFault.MemoryFault, Entry.Entry, Kept.LeavesOr}
+use Rattle.verifier_desk.specs.{declared.{answer_fault.AnswerFault.{AnswerFault, TheVariants.{Memory, Unkept}}, desk.Desk.Desk}, Answering.{Answers, OnlyNotes}, Desk.DeskStandsFor, DeskLine.{DeskLine, TooLong, desk_line_of, desk_line_of_words}, DeviceKey.DeviceKey, Noted.{entries_after, noted_of, with_noted}, Replies.{DeskFields, lines_said, replies, reply, reply_to}, Reply.ReplyFields, Standing.with_said, Serving.{HasAnswered, HasFailed, HasPut, Keeps, Outside, StopsAt}, Telling.{FailsAt, Grows, PutsHeld, TellsLines, Told}, Withheld.{Withheld, nothing_withheld}}
 use Rattle.verifier_desk.proofs.MoreLines.{failed_since, fails_more, grows_more, put_of_more}
 
 module _ {M W : Type 0} (m : memory.Ghosts M) (w : sink.Ghosts W) (first : Outside M W)

@@ -4,10 +4,8 @@ use Rattle.std.specs.Prelude.{nat_lt, slice_index_or}
 use Rattle.std.proofs.lemmas.Bool.{cases_Bool, ltb-true}
 use Rattle.std.proofs.lemmas.Bool.Decides.{nat_tests}
 use Rattle.std.proofs.lemmas.List.Elements.{All-cons, All-contains, All-nil, Contains-append_cases, Contains-append_left, Contains-append_right}
-use Rattle.desk_memory.specs.Entry.{Entry, owner_in}
-use Rattle.desk_memory.specs.KeyMark.{key_mark}
-use Rattle.verifier_desk.specs.DeviceKey.{DeviceKey}
-use Rattle.verifier_desk.specs.KeyOwner.{IsFreeFor, StandApartBefore, StandsApart}
+use Rattle.desk_memory.specs.{Entry.{Entry, owner_in}, KeyMark.key_mark}
+use Rattle.verifier_desk.specs.{DeviceKey.DeviceKey, KeyOwner.{IsFreeFor, StandApartBefore, StandsApart}}
 use Rattle.verifier_desk.proofs.KeyPlaces.{no_device}
 
 -- these are the marks of the devices before a place, and no others

@@ -7,27 +7,10 @@ use Rattle.std.proofs.lemmas.Option.{same_Some}
 use Rattle.std.proofs.lemmas.Bool.{cases_Bool, ltb-true}
 use Rattle.std.proofs.lemmas.Bool.Decides.{nat_tests}
 use Rattle.std.proofs.lemmas.Slice.Eq.{bytes_eq-Decides}
-use Rattle.desk_memory.specs.declared.answer.Answer.TheVariants.{Stale}
-use Rattle.desk_memory.specs.declared.device_state.DeviceState.{DeviceState}
-use Rattle.desk_memory.specs.DeviceState.{is_new}
-use Rattle.desk_memory.specs.Entry.{Entry, Note, entry_at, home_of, is_replaced, last_in, owner_in, with_entry, with_note}
-use Rattle.desk_memory.specs.KeyMark.{key_mark}
+use Rattle.desk_memory.specs.{declared.{answer.Answer.TheVariants.Stale, device_state.DeviceState.DeviceState}, DeviceState.is_new, Entry.{Entry, Note, entry_at, home_of, is_replaced, last_in, owner_in, with_entry, with_note}, KeyMark.key_mark}
 use Rattle.desk_memory.proofs.Noted.{owner_is_kept, owner_is_noted}
-use Rattle.verifier_desk.specs.DeskLine.{DeskLine, TooLong, Silent, Foreign, Own, desk_line_of}
-use Rattle.verifier_desk.specs.DeviceKey.{DeviceKey, key_named}
-use Rattle.verifier_desk.specs.DeviceLine.{DeviceLine}
-use Rattle.verifier_desk.specs.DeviceReply.{answer_after}
-use Rattle.verifier_desk.specs.Judged.{JudgedLine, answer_to, entry_after}
-use Rattle.verifier_desk.specs.KeyOwner.{IsFreeFor, IsKeyBound, IsKeyKept, IsServedIn, IsServedThrough, IsUnderOneName, KeysAreKept, KeysStandApart, KeysStandApartIn}
-use Rattle.verifier_desk.specs.Law.{started_after}
-use Rattle.verifier_desk.specs.Noted.{entries_after, note_at, noted_of, with_noted}
-use Rattle.verifier_desk.specs.Replies.{DeskFields, judge_at, lines_said, mark_at, own_answer, own_line, state_at}
-use Rattle.verifier_desk.specs.Run.{AreStarted, Run, entries_through}
-use Rattle.verifier_desk.proofs.GoneOn.{desk_goes_on}
-use Rattle.verifier_desk.proofs.KeyPlaces.{IsPlaceOf, place_named, placed}
-use Rattle.verifier_desk.proofs.Remembered.{IsKnown, entry_known, line_known, memory_has_states, own_known_entry, state_known}
-use Rattle.verifier_desk.proofs.Repeated.{HasAnswer, has_answer}
-use Rattle.verifier_desk.proofs.Standing.{same_device}
+use Rattle.verifier_desk.specs.{DeskLine.{DeskLine, TooLong, Silent, Foreign, Own, desk_line_of}, DeviceKey.{DeviceKey, key_named}, DeviceLine.DeviceLine, DeviceReply.answer_after, Judged.{JudgedLine, answer_to, entry_after}, KeyOwner.{IsFreeFor, IsKeyBound, IsKeyKept, IsServedIn, IsServedThrough, IsUnderOneName, KeysAreKept, KeysStandApart, KeysStandApartIn}, Law.started_after, Noted.{entries_after, note_at, noted_of, with_noted}, Replies.{DeskFields, judge_at, lines_said, mark_at, own_answer, own_line, state_at}, Run.{AreStarted, Run, entries_through}}
+use Rattle.verifier_desk.proofs.{GoneOn.desk_goes_on, KeyPlaces.{IsPlaceOf, place_named, placed}, Remembered.{IsKnown, entry_known, line_known, memory_has_states, own_known_entry, state_known}, Repeated.{HasAnswer, has_answer}, Standing.same_device}
 
 second : (a b c : Bool) → (a && b && c) ≡ true → b ≡ true
 second true true c all = refl

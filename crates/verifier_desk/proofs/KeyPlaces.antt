@@ -10,8 +10,7 @@ use Rattle.std.proofs.lemmas.Bool.{cases_Bool, false≢true}
 use Rattle.std.proofs.lemmas.Bool.Decides.{nat_tests}
 use Rattle.std.proofs.lemmas.List.{get_or_append_left, length-append}
 use Rattle.std.proofs.lemmas.Slice.Eq.{bytes_eq-Decides}
-use Rattle.verifier_desk.specs.DeviceKey.{DeviceKey, key_named}
-use Rattle.verifier_desk.specs.Standing.{AreDistinct}
+use Rattle.verifier_desk.specs.{DeviceKey.{DeviceKey, key_named}, Standing.AreDistinct}
 
 -- any device, for places that stand for one
 pub no_device : DeviceKey

@@ -2,17 +2,11 @@
 use Rattle.std.proofs.Common.{◌≡◌, ◌≤◌, ◌∙◌, ◌++◌, inl, inr, ℕ, List, [], ◌∷◌, ap, sym, arith, append_assoc, ⊎_elim}
 use Rattle.std.proofs.lemmas.List.{append-nil}
 use Rattle.outside_edge.specs.declared.sink.Sink as sink
-use Rattle.source_server.specs.declared.halt.Halt.{Halt}
-use Rattle.source_server.specs.declared.halt.Halt.TheVariants.{Write, Own}
+use Rattle.source_server.specs.{declared.halt.Halt.{Halt, TheVariants.{Write, Own}}}
 use Rattle.outside_edge.proofs.Counts.{rose_since}
 use Rattle.desk_memory.specs.declared.memory.Memory as memory
-use Rattle.desk_memory.specs.declared.memory_fault.MemoryFault.{MemoryFault}
-use Rattle.desk_memory.specs.Entry.{Entry}
-use Rattle.verifier_desk.specs.declared.answer_fault.AnswerFault.{AnswerFault}
-use Rattle.verifier_desk.specs.declared.answer_fault.AnswerFault.TheVariants.{Memory, Unkept}
-use Rattle.verifier_desk.specs.Replies.{DeskFields, replies, reply}
-use Rattle.verifier_desk.specs.Serving.{HasFailed, HasPut, IsBeginning, Outside, StopsAt}
-use Rattle.verifier_desk.specs.Telling.{FailsAt, Grows}
+use Rattle.desk_memory.specs.{declared.memory_fault.MemoryFault.MemoryFault, Entry.Entry}
+use Rattle.verifier_desk.specs.{declared.answer_fault.AnswerFault.{AnswerFault, TheVariants.{Memory, Unkept}}, Replies.{DeskFields, replies, reply}, Serving.{HasFailed, HasPut, IsBeginning, Outside, StopsAt}, Telling.{FailsAt, Grows}}
 
 pub more_replies : (fields : DeskFields) (more lines : List (List ℕ))
     → (text : List ℕ) × (replies fields (more ++ lines) ≡ replies fields lines ++ text)

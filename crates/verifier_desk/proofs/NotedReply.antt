@@ -1,17 +1,8 @@
 -- What was noted of a line, and what its reply says of it.
 use Rattle.std.proofs.Common.{◌≡◌, ◌∙◌, ℕ, Bool, true, false, List, ◌∷◌, Option, Some, None, Ok, refl, ap, sym, subst}
 use Rattle.std.specs.Prelude.{if◌then◌else◌}
-use Rattle.desk_memory.specs.declared.memory.Memory.{Ghosts}
-use Rattle.desk_memory.specs.declared.device_state.DeviceState.{DeviceState}
-use Rattle.desk_memory.specs.DeviceState.{is_new}
-use Rattle.desk_memory.specs.Entry.{Entry, Note}
-use Rattle.desk_memory.specs.KeyMark.{key_mark}
-use Rattle.verifier_desk.specs.Answering.{NotesIf}
-use Rattle.verifier_desk.specs.DeskLine.{Own}
-use Rattle.verifier_desk.specs.DeviceKey.{DeviceKey}
-use Rattle.verifier_desk.specs.DeviceLine.{DeviceLine}
-use Rattle.verifier_desk.specs.Noted.{note_at, noted_of, with_noted}
-use Rattle.verifier_desk.specs.Replies.{DeskFields, state_at}
+use Rattle.desk_memory.specs.{declared.{memory.Memory.Ghosts, device_state.DeviceState.DeviceState}, DeviceState.is_new, Entry.{Entry, Note}, KeyMark.key_mark}
+use Rattle.verifier_desk.specs.{Answering.NotesIf, DeskLine.Own, DeviceKey.DeviceKey, DeviceLine.DeviceLine, Noted.{note_at, noted_of, with_noted}, Replies.{DeskFields, state_at}}
 
 -- a note was made, or none
 pub record Notes {M : Type 0} (m : Ghosts M) (old new : M) (is : Bool) (noted : Option Note)

@@ -5,14 +5,8 @@ use Rattle.std.specs.Str.{bytes_eq}
 use Rattle.std.proofs.lemmas.Bool.{cases_Bool}
 use Rattle.std.proofs.lemmas.Bool.Decides.{nat_tests}
 use Rattle.std.proofs.lemmas.Slice.Eq.{bytes_eq-Decides}
-use Rattle.desk_memory.specs.declared.answer.Answer.{Answer}
-use Rattle.desk_memory.specs.declared.answer.Answer.TheVariants.{Stale}
-use Rattle.desk_memory.specs.declared.device_state.DeviceState.{DeviceState}
-use Rattle.desk_memory.specs.DeviceState.{by_number, is_new, under_new_key, with_answer}
-use Rattle.desk_memory.specs.Entry.{Entry, entry_at, entry_state, home_of}
-use Rattle.verifier_desk.specs.DeviceReply.{new_answer}
-use Rattle.verifier_desk.specs.Judged.{JudgedLine, answer_to, entry_after, is_new_to, mark_of, state_before}
-use Rattle.verifier_desk.specs.Law.{IsRepeated}
+use Rattle.desk_memory.specs.{declared.{answer.Answer.{Answer, TheVariants.Stale}, device_state.DeviceState.DeviceState}, DeviceState.{by_number, is_new, under_new_key, with_answer}, Entry.{Entry, entry_at, entry_state, home_of}}
+use Rattle.verifier_desk.specs.{DeviceReply.new_answer, Judged.{JudgedLine, answer_to, entry_after, is_new_to, mark_of, state_before}, Law.IsRepeated}
 use Rattle.verifier_desk.proofs.AcceptedOnce.{new_by_number}
 
 -- a device's last entry has the number of a line and what was answered to it, under its key

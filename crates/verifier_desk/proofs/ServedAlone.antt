@@ -5,15 +5,9 @@ use Rattle.std.specs.Str.{bytes_eq}
 use Rattle.std.proofs.lemmas.List.{append-nil}
 use Rattle.std.proofs.lemmas.Bool.{cases_Bool, false≢true}
 use Rattle.std.proofs.lemmas.Slice.Eq.{bytes_eq-Decides}
-use Rattle.text_scan.specs.declared.fault_kind.FaultKind.{FaultKind}
-use Rattle.text_scan.specs.Decimal.{decimal_of}
-use Rattle.text_scan.specs.Word.{words_of}
+use Rattle.text_scan.specs.{declared.fault_kind.FaultKind.FaultKind, Decimal.decimal_of, Word.words_of}
 use Rattle.source_server.specs.HeldLine.{LONGEST_LINE}
-use Rattle.verifier_desk.specs.DeskLine.{DeskLine, TooLong, Silent, Foreign, Own, is_verb, own_or_foreign, desk_line_of_words, desk_line_of}
-use Rattle.verifier_desk.specs.DeviceKey.{DeviceKey, key_named}
-use Rattle.verifier_desk.specs.DeviceLine.{DeviceLine}
-use Rattle.verifier_desk.specs.Replies.{DeskFields, answer_line, own_answer, own_line, own_lines, reply_to, reply, replies}
-use Rattle.verifier_desk.specs.Law.{alone, is_named, is_of, lines_of_device, replies_to_device, IsServedAlone}
+use Rattle.verifier_desk.specs.{DeskLine.{DeskLine, TooLong, Silent, Foreign, Own, is_verb, own_or_foreign, desk_line_of_words, desk_line_of}, DeviceKey.{DeviceKey, key_named}, DeviceLine.DeviceLine, Replies.{DeskFields, answer_line, own_answer, own_line, own_lines, reply_to, reply, replies}, Law.{alone, is_named, is_of, lines_of_device, replies_to_device, IsServedAlone}}
 
 -- the key of its name is the device's own
 own_key : (devices : List DeviceKey) (device : DeviceKey) (name : List ℕ)

@@ -7,14 +7,9 @@ use Rattle.std.proofs.lemmas.List.{get_or-set_same, get_or-set_other}
 use Rattle.std.proofs.lemmas.Bool.{cases_Bool, eqb-true, false_from_ne_true}
 use Rattle.std.proofs.lemmas.Bool.Decides.{nat_tests}
 use Rattle.std.proofs.lemmas.Slice.Eq.{bytes_eq-Decides}
-use Rattle.report_verifier.specs.Judge.{Judge}
-use Rattle.report_verifier.specs.Policy.{PolicyFields}
+use Rattle.report_verifier.specs.{Judge.Judge, Policy.PolicyFields}
 use Rattle.desk_memory.specs.declared.device_state.DeviceState.{DeviceState}
-use Rattle.verifier_desk.specs.DeskLine.{Own}
-use Rattle.verifier_desk.specs.DeviceKey.{DeviceKey}
-use Rattle.verifier_desk.specs.DeviceLine.{DeviceLine}
-use Rattle.verifier_desk.specs.Replies.{DeskFields, judge_at, state_at}
-use Rattle.verifier_desk.specs.Standing.{IsKeptAtItsPlace, StatesStand, with_said}
+use Rattle.verifier_desk.specs.{DeskLine.Own, DeviceKey.DeviceKey, DeviceLine.DeviceLine, Replies.{DeskFields, judge_at, state_at}, Standing.{IsKeptAtItsPlace, StatesStand, with_said}}
 
 set-here : (states : List DeviceState) (place : ℕ) (state s : DeviceState) → place < length states
     → slice_index_or (slice_set states place state) place s ≡ state

@@ -1,19 +1,7 @@
 -- What answering one line does to a desk's memory.
 use Rattle.std.specs.Prelude.{◌≡◌, ◌≤◌, ℕ, Bool, true, false, List, Result, Ok, Err, None, IsTrue}
-use Rattle.desk_memory.specs.declared.memory.Memory.{Ghosts}
-use Rattle.desk_memory.specs.declared.memory_fault.MemoryFault.{MemoryFault}
-use Rattle.desk_memory.specs.Entry.{Entry, Note, with_note}
-use Rattle.verifier_desk.specs.declared.answer_fault.AnswerFault.{AnswerFault}
-use Rattle.verifier_desk.specs.declared.answer_fault.AnswerFault.TheVariants.{Memory, Unkept}
-use Rattle.verifier_desk.specs.declared.desk.Desk.{Desk}
-use Rattle.verifier_desk.specs.Desk.{DeskStandsFor}
-use Rattle.verifier_desk.specs.DeskLine.{DeskLine}
-use Rattle.verifier_desk.specs.DeviceLine.{DeviceLine}
-use Rattle.verifier_desk.specs.Noted.{noted_of, with_noted}
-use Rattle.verifier_desk.specs.Replies.{DeskFields, gives_report, reply_to}
-use Rattle.verifier_desk.specs.Reply.{ReplyFields}
-use Rattle.verifier_desk.specs.Standing.{with_said}
-use Rattle.verifier_desk.specs.Serving.{HasFailed}
+use Rattle.desk_memory.specs.{declared.{memory.Memory.Ghosts, memory_fault.MemoryFault.MemoryFault}, Entry.{Entry, Note, with_note}}
+use Rattle.verifier_desk.specs.{declared.{answer_fault.AnswerFault.{AnswerFault, TheVariants.{Memory, Unkept}}, desk.Desk.Desk}, Desk.DeskStandsFor, DeskLine.DeskLine, DeviceLine.DeviceLine, Noted.{noted_of, with_noted}, Replies.{DeskFields, gives_report, reply_to}, Reply.ReplyFields, Standing.with_said, Serving.HasFailed}
 
 -- whatever the memory does: it is no more honest, and a crash leaves no more than before
 pub record OnlyNotes {M : Type 0} (m : Ghosts M) (old new : M) : Type 0 where

@@ -1,12 +1,9 @@
 -- What a line says at a desk with these devices.
 use Rattle.std.specs.Prelude.{ℕ, ◌||◌, Bool, List, [], ◌∷◌, length, if◌then◌else◌, nat_lt, Option, Some, Result, Ok, codes}
 use Rattle.std.specs.Str.{bytes_eq}
-use Rattle.text_scan.specs.declared.fault_kind.FaultKind.{FaultKind}
-use Rattle.text_scan.specs.Decimal.{decimal_of}
-use Rattle.text_scan.specs.Word.{words_of}
+use Rattle.text_scan.specs.{declared.fault_kind.FaultKind.FaultKind, Decimal.decimal_of, Word.words_of}
 use Rattle.source_server.specs.HeldLine.{LONGEST_LINE}
-use Rattle.verifier_desk.specs.DeviceKey.{DeviceKey, key_named}
-use Rattle.verifier_desk.specs.DeviceLine.{DeviceLine}
+use Rattle.verifier_desk.specs.{DeviceKey.{DeviceKey, key_named}, DeviceLine.DeviceLine}
 
 pub data DeskLine : Type 0 where
   TooLong : DeskLine

@@ -4,13 +4,7 @@ use Rattle.std.specs.Char.{is_ascii_alphanumeric}
 use Rattle.std.specs.List.{list_all, list_any}
 use Rattle.std.specs.Option.{is_some}
 use Rattle.std.specs.Str.{bytes_eq}
-use Rattle.text_scan.specs.declared.fault_at.FaultAt.{FaultAt}
-use Rattle.text_scan.specs.declared.fault_kind.FaultKind.{FaultKind}
-use Rattle.text_scan.specs.declared.fault_kind.FaultKind.TheVariants.{Digit, Count, Twice}
-use Rattle.text_scan.specs.LineFold.{text_fold}
-use Rattle.text_scan.specs.Reader.{◌>>=◌}
-use Rattle.text_scan.specs.Word.{words_of, next_word, keyword_of, end_of}
-use Rattle.text_scan.specs.WordValue.{hex_block_of}
+use Rattle.text_scan.specs.{declared.{fault_at.FaultAt.FaultAt, fault_kind.FaultKind.{FaultKind, TheVariants.{Digit, Count, Twice}}}, LineFold.text_fold, Reader.◌>>=◌, Word.{words_of, next_word, keyword_of, end_of}, WordValue.hex_block_of}
 
 pub record DeviceKey : Type 0 where
   pub name : List ℕ

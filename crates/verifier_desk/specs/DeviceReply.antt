@@ -2,18 +2,10 @@
 use Rattle.std.specs.Prelude.{ℕ, ◌==◌, ◌&&◌, ◌+◌, Bool, List, [], ◌∷◌, if◌then◌else◌, Option, option_map, Result, Ok, Err}
 use Rattle.bus_signals.specs.Report.{ReportFields}
 use Rattle.part_definitions.specs.Hmac.{hmac}
-use Rattle.text_scan.specs.declared.fault_kind.FaultKind.{FaultKind}
-use Rattle.text_scan.specs.declared.fault_kind.FaultKind.TheVariants.{Extra}
+use Rattle.text_scan.specs.{declared.fault_kind.FaultKind.{FaultKind, TheVariants.Extra}}
 use Rattle.report_text.specs.ReportFile.{report2_of}
-use Rattle.report_verifier.specs.declared.asked.Asked.{Asked}
-use Rattle.report_verifier.specs.Expectation.{count_bytes}
-use Rattle.report_verifier.specs.Judge.{Judge}
-use Rattle.report_verifier.specs.Policy.{expectation}
-use Rattle.report_verifier.specs.Verdict.{verdict}
-use Rattle.desk_memory.specs.declared.answer.Answer.{Answer}
-use Rattle.desk_memory.specs.declared.answer.Answer.TheVariants.{Bad, Spent, Requested, Judged}
-use Rattle.desk_memory.specs.declared.device_state.DeviceState.{DeviceState}
-use Rattle.desk_memory.specs.DeviceState.{by_number, is_new, with_answer}
+use Rattle.report_verifier.specs.{declared.asked.Asked.Asked, Expectation.count_bytes, Judge.Judge, Policy.expectation, Verdict.verdict}
+use Rattle.desk_memory.specs.{declared.{answer.Answer.{Answer, TheVariants.{Bad, Spent, Requested, Judged}}, device_state.DeviceState.DeviceState}, DeviceState.{by_number, is_new, with_answer}}
 use Rattle.verifier_desk.specs.DeviceLine.{DeviceLine}
 
 -- the greatest counter of a request

@@ -1,13 +1,8 @@
 -- The lines of a device in all runs, each with what it was judged by, and what they leave of it.
 use Rattle.std.specs.Prelude.{ℕ, Bool, List, [], ◌∷◌, if◌then◌else◌, map, Option, Some}
 use Rattle.report_verifier.specs.Judge.{Judge}
-use Rattle.desk_memory.specs.declared.answer.Answer.{Answer}
-use Rattle.desk_memory.specs.declared.device_state.DeviceState.{DeviceState}
-use Rattle.desk_memory.specs.DeviceState.{is_new}
-use Rattle.desk_memory.specs.Entry.{Entry, entry_at, home_of, state_under}
-use Rattle.desk_memory.specs.KeyMark.{key_mark}
-use Rattle.verifier_desk.specs.DeviceLine.{DeviceLine}
-use Rattle.verifier_desk.specs.DeviceReply.{answer_after, state_after}
+use Rattle.desk_memory.specs.{declared.{answer.Answer.Answer, device_state.DeviceState.DeviceState}, DeviceState.is_new, Entry.{Entry, entry_at, home_of, state_under}, KeyMark.key_mark}
+use Rattle.verifier_desk.specs.{DeviceLine.DeviceLine, DeviceReply.{answer_after, state_after}}
 
 -- a line, and what it was judged by: another run may have another image, policy or key
 pub record JudgedLine : Type 0 where

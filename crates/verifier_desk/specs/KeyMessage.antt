@@ -1,7 +1,6 @@
 -- The messages whose HMACs under one key are told or kept: of tokens, challenges and the mark.
 use Rattle.std.specs.Prelude.{◌≡◌, ◌++◌, ℕ, List, ◌∷◌, take}
-use Rattle.part_definitions.specs.Hmac.{hmac}
-use Rattle.part_definitions.specs.Request.{request_token}
+use Rattle.part_definitions.specs.{Hmac.hmac, Request.request_token}
 use Rattle.desk_memory.specs.KeyMark.{key_mark, mark_message}
 use Rattle.verifier_desk.specs.DeviceReply.{challenge_message, desk_challenge}
 

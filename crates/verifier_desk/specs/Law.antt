@@ -6,20 +6,9 @@ use Rattle.std.specs.Str.{bytes_eq}
 use Rattle.bus_signals.specs.Report.{ReportFields}
 use Rattle.text_scan.specs.declared.fault_kind.FaultKind.{FaultKind}
 use Rattle.report_text.specs.ReportFile.{report2_of}
-use Rattle.report_verifier.specs.declared.verdict.Verdict.TheVariants.{Accept}
-use Rattle.report_verifier.specs.Judge.{Judge}
-use Rattle.desk_memory.specs.declared.answer.Answer.{Answer}
-use Rattle.desk_memory.specs.declared.answer.Answer.TheVariants.{Stale, Requested, Judged}
-use Rattle.desk_memory.specs.declared.device_state.DeviceState.{DeviceState}
-use Rattle.desk_memory.specs.DeviceState.{is_new}
-use Rattle.desk_memory.specs.Entry.{Entry, last_in}
-use Rattle.verifier_desk.specs.DeskLine.{DeskLine, Own, desk_line_of}
-use Rattle.verifier_desk.specs.DeviceKey.{DeviceKey, key_named}
-use Rattle.verifier_desk.specs.DeviceLine.{DeviceLine}
-use Rattle.verifier_desk.specs.DeviceReply.{answer_after, desk_challenge}
-use Rattle.verifier_desk.specs.Judged.{JudgedLine, answer_to, entry_after, entry_through, is_new_to, judged_by, mark_of}
-use Rattle.verifier_desk.specs.Noted.{entries_after}
-use Rattle.verifier_desk.specs.Replies.{DeskFields, judge_at, own_lines, replies, reply}
+use Rattle.report_verifier.specs.{declared.verdict.Verdict.TheVariants.Accept, Judge.Judge}
+use Rattle.desk_memory.specs.{declared.{answer.Answer.{Answer, TheVariants.{Stale, Requested, Judged}}, device_state.DeviceState.DeviceState}, DeviceState.is_new, Entry.{Entry, last_in}}
+use Rattle.verifier_desk.specs.{DeskLine.{DeskLine, Own, desk_line_of}, DeviceKey.{DeviceKey, key_named}, DeviceLine.DeviceLine, DeviceReply.{answer_after, desk_challenge}, Judged.{JudgedLine, answer_to, entry_after, entry_through, is_new_to, judged_by, mark_of}, Noted.entries_after, Replies.{DeskFields, judge_at, own_lines, replies, reply}}
 
 -- a desk that serves one device alone
 abbrev pub alone : DeskFields → DeviceKey → DeskFields

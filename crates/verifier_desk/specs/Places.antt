@@ -3,8 +3,7 @@ use Rattle.std.specs.Prelude.{◌≡◌, ◌<◌, ℕ, List, Option, Some, lengt
 use Rattle.std.specs.BTreeMap.{get_by}
 use Rattle.std.specs.Cmp.Lexicographic.{slice_cmp}
 use Rattle.std.specs.Ordering.{nat_cmp}
-use Rattle.verifier_desk.specs.declared.places.Places.{Places}
-use Rattle.verifier_desk.specs.DeviceKey.{DeviceKey}
+use Rattle.verifier_desk.specs.{declared.places.Places.Places, DeviceKey.DeviceKey}
 
 -- the place of a word, if it has one
 abbrev pub place_in : Places → List ℕ → Option ℕ

@@ -1,10 +1,7 @@
 -- The runs of desks over one memory, each from its start to its end.
 use Rattle.std.specs.Prelude.{◌≡◌, ℕ, List, [], ◌∷◌, ◌++◌}
 use Rattle.desk_memory.specs.Entry.{Entry, last_in}
-use Rattle.verifier_desk.specs.Judged.{JudgedLine, entry_through}
-use Rattle.verifier_desk.specs.Law.{judged_lines}
-use Rattle.verifier_desk.specs.Noted.{entries_after}
-use Rattle.verifier_desk.specs.Replies.{DeskFields}
+use Rattle.verifier_desk.specs.{Judged.{JudgedLine, entry_through}, Law.judged_lines, Noted.entries_after, Replies.DeskFields}
 
 -- a desk and its lines, the newest first
 pub record Run : Type 0 where

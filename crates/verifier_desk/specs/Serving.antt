@@ -1,23 +1,12 @@
 -- What a desk that serves a source puts into a sink, and what a crash leaves of its memory.
 use Rattle.std.specs.Prelude.{◌≡◌, ◌⊎◌, ◌++◌, ℕ, List, [], ◌∷◌, IsTrue}
-use Rattle.outside_edge.specs.Count.{Rose}
-use Rattle.outside_edge.specs.Sink.{Takes}
+use Rattle.outside_edge.specs.{Count.Rose, Sink.Takes}
 use Rattle.outside_edge.specs.declared.sink.Sink as sink
-use Rattle.source_server.specs.declared.halt.Halt.{Halt}
-use Rattle.source_server.specs.declared.halt.Halt.TheVariants.{Write, Own}
-use Rattle.source_server.specs.LineCut.{all_lines, whole_lines}
-use Rattle.source_server.specs.Lines.{StopsAmong}
-use Rattle.source_server.specs.Responder.{Promise}
+use Rattle.source_server.specs.{declared.halt.Halt.{Halt, TheVariants.{Write, Own}}, LineCut.{all_lines, whole_lines}, Lines.StopsAmong, Responder.Promise}
 use Rattle.desk_memory.specs.declared.memory.Memory as memory
-use Rattle.desk_memory.specs.declared.memory_fault.MemoryFault.{MemoryFault}
+use Rattle.desk_memory.specs.{declared.memory_fault.MemoryFault.MemoryFault, Entry.Entry, Kept.IsKept}
 use Rattle.desk_memory.specs.declared.memory_fault.MemoryFault.TheVariants as refused
-use Rattle.desk_memory.specs.Entry.{Entry}
-use Rattle.desk_memory.specs.Kept.{IsKept}
-use Rattle.verifier_desk.specs.declared.answer_fault.AnswerFault.{AnswerFault}
-use Rattle.verifier_desk.specs.declared.answer_fault.AnswerFault.TheVariants.{Memory, Unkept}
-use Rattle.verifier_desk.specs.DeskLine.{desk_line_of}
-use Rattle.verifier_desk.specs.Noted.{entries_after}
-use Rattle.verifier_desk.specs.Replies.{DeskFields, gives_report, lines_said, replies}
+use Rattle.verifier_desk.specs.{declared.answer_fault.AnswerFault.{AnswerFault, TheVariants.{Memory, Unkept}}, DeskLine.desk_line_of, Noted.entries_after, Replies.{DeskFields, gives_report, lines_said, replies}}
 
 -- a memory has these entries, whatever crash leaves them and no others, and its file alone has them
 pub record Keeps {M : Type 0} (m : memory.Ghosts M) (now : M) (entries : List Entry)

@@ -1,20 +1,9 @@
 -- Within a serving: replies that are held back until the memory has settled.
 use Rattle.std.specs.Prelude.{◌≡◌, ◌≤◌, ◌++◌, ℕ, false, List, Result, OnOk, IfErr}
 use Rattle.outside_edge.specs.declared.sink.Sink as sink
-use Rattle.source_server.specs.declared.halt.Halt.{Halt}
-use Rattle.source_server.specs.declared.halt.Halt.TheVariants.{Own}
-use Rattle.source_server.specs.LineResponder.{LinePromise}
-use Rattle.source_server.specs.Responder.{Moment}
+use Rattle.source_server.specs.{declared.halt.Halt.{Halt, TheVariants.Own}, LineResponder.LinePromise, Responder.Moment}
 use Rattle.desk_memory.specs.declared.memory.Memory as memory
-use Rattle.verifier_desk.specs.declared.answer_fault.AnswerFault.{AnswerFault}
-use Rattle.verifier_desk.specs.declared.answer_fault.AnswerFault.TheVariants.{Memory}
-use Rattle.verifier_desk.specs.declared.desk.Desk.{Desk}
-use Rattle.verifier_desk.specs.declared.desk_responder.DeskResponder.{DeskResponder}
-use Rattle.verifier_desk.specs.Desk.{DeskStandsFor}
-use Rattle.verifier_desk.specs.Noted.{entries_after}
-use Rattle.verifier_desk.specs.Replies.{DeskFields, lines_said, replies}
-use Rattle.verifier_desk.specs.Serving.{HasAnswered, HasPut, Keeps, Outside, StopsAt}
-use Rattle.verifier_desk.specs.Withheld.{Withheld, nothing_withheld}
+use Rattle.verifier_desk.specs.{declared.{answer_fault.AnswerFault.{AnswerFault, TheVariants.Memory}, desk.Desk.Desk, desk_responder.DeskResponder.DeskResponder}, Desk.DeskStandsFor, Noted.entries_after, Replies.{DeskFields, lines_said, replies}, Serving.{HasAnswered, HasPut, Keeps, Outside, StopsAt}, Withheld.{Withheld, nothing_withheld}}
 
 -- whatever came between: the memory is no more honest, and no count has fallen
 pub record Grows {M W : Type 0} (m : memory.Ghosts M) (w : sink.Ghosts W)

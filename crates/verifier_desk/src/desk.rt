@@ -2,15 +2,8 @@ ghost use Rattle.std.specs.Prelude.{◌≡◌, ◌<◌, ◌↔◌, ℕ, List, Ok
 ghost use Rattle.sha2.specs.Sha256.{sha256};
 ghost use Rattle.mem_map.specs.Image.{byte_in};
 ghost use Rattle.text_scan.specs.Word.{words_of};
-ghost use Rattle.desk_memory.specs.Entry.{last_in, state_under};
-ghost use Rattle.desk_memory.specs.KeyMark.{key_mark};
-ghost use Rattle.verifier_desk.specs.declared.desk_line.SaidLine.TheVariants.{Silent};
-ghost use Rattle.verifier_desk.specs.DeskLine.{Own, desk_line_of_words};
-ghost use Rattle.verifier_desk.specs.DeviceKey.{DeviceKey as DeviceFields, key_named};
-ghost use Rattle.verifier_desk.specs.DeviceLine.{DeviceLine};
-ghost use Rattle.verifier_desk.specs.OwnLine.{line_in, own_or_none, said_at};
-ghost use Rattle.verifier_desk.specs.Replies.{DeskFields};
-ghost use Rattle.verifier_desk.specs.Reply.{reply_in};
+ghost use Rattle.desk_memory.specs.{Entry.{last_in, state_under}, KeyMark.key_mark};
+ghost use Rattle.verifier_desk.specs.{declared.desk_line.SaidLine.TheVariants.Silent, DeskLine.{Own, desk_line_of_words}, DeviceKey.{DeviceKey as DeviceFields, key_named}, DeviceLine.DeviceLine, OwnLine.{line_in, own_or_none, said_at}, Replies.DeskFields, Reply.reply_in};
 
 use crate::answer_fault::AnswerFault;
 use crate::answer_text::answer_line;
@@ -68,8 +61,7 @@ fn states_in(
 }
 
 impl Desk {
-    ghost use Rattle.verifier_desk.specs.Answering.{Answers, OnlyNotes};
-    ghost use Rattle.verifier_desk.specs.Desk.{DeskStandsFor, desk_with, no_lines_of};
+    ghost use Rattle.verifier_desk.specs.{Answering.{Answers, OnlyNotes}, Desk.{DeskStandsFor, desk_with, no_lines_of}};
 
     /// A desk of these devices, in the states that these entries have.
     pub fn new(

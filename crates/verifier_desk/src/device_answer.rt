@@ -1,13 +1,10 @@
 ghost use Rattle.std.specs.Prelude.{◌≡◌, IsTrue, IfOk, OnOk, OnErr, IfSome, option_map};
-ghost use Rattle.report_verifier.specs.Judge.{judge_of};
-ghost use Rattle.report_verifier.specs.Validity.{are_valid_for};
+ghost use Rattle.report_verifier.specs.{Judge.judge_of, Validity.are_valid_for, Policy.expectation};
 ghost use Rattle.sha2.specs.Sha256.{sha256};
 ghost use Rattle.desk_memory.specs.DeviceState.{is_new};
 ghost use Rattle.text_scan.specs.Word.{words_of};
-ghost use Rattle.report_verifier.specs.Policy.{expectation};
 ghost use Rattle.report_text.specs.ReportFile.{report2_of};
-ghost use Rattle.verifier_desk.specs.DeviceReply.{answer_after, answer_to_ask, answer_to_give, is_new_give, new_answer, request_with, state_after};
-ghost use Rattle.verifier_desk.specs.OwnLine.{line_in};
+ghost use Rattle.verifier_desk.specs.{DeviceReply.{answer_after, answer_to_ask, answer_to_give, is_new_give, new_answer, request_with, state_after}, OwnLine.line_in};
 
 use crate::challenge::desk_challenge;
 use crate::desk_line::OwnLine;

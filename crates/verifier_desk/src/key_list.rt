@@ -2,8 +2,7 @@ ghost use Rattle.std.specs.Prelude.{◌≡◌, ◌<◌, ◌++◌, ◌∷◌, [],
 ghost use Rattle.std.specs.List.{position_from};
 ghost use Rattle.std.specs.Option.{is_some};
 ghost use Rattle.std.specs.Str.{bytes_eq};
-ghost use Rattle.text_scan.specs.LineFold.{TakesLine};
-ghost use Rattle.text_scan.specs.Reader.{Reads};
+ghost use Rattle.text_scan.specs.{LineFold.TakesLine, Reader.Reads};
 ghost use Rattle.verifier_desk.specs.DeviceKey.{DeviceKey as DeviceFields, devices_of, has_key, key_named, with_device, with_line};
 
 use crate::device_key::{DeviceKey, read_device};
@@ -23,9 +22,7 @@ pub struct KeyList {
 /// Seen as its devices.
 impl Model for KeyList {
     ghost use Rattle.std.specs.Prelude.{List};
-    ghost use Rattle.verifier_desk.specs.DeviceKey.{DeviceKey as DeviceFields};
-    ghost use Rattle.verifier_desk.specs.Places.{ArePlaced, place_in};
-    ghost use Rattle.verifier_desk.specs.Standing.{AreDistinct};
+    ghost use Rattle.verifier_desk.specs.{DeviceKey.DeviceKey as DeviceFields, Places.{ArePlaced, place_in}, Standing.AreDistinct};
 
     ghost Value = { List DeviceFields };
 

@@ -1,8 +1,4 @@
-ghost use Rattle.verifier_desk.specs.KeyMessage.{MessagesStandApart};
-ghost use Rattle.verifier_desk.specs.KeyOwner.{IsKeyBound, IsKeyKept, IsUnderOneName};
-ghost use Rattle.verifier_desk.specs.Law.{IsServedAlone, IsAcceptedOnce, IsAnswered, IsGoneOn, IsRemembered, IsRepeated};
-ghost use Rattle.verifier_desk.specs.Run.{IsOfAllRuns};
-ghost use Rattle.verifier_desk.specs.Standing.{IsKeptAtItsPlace};
+ghost use Rattle.verifier_desk.specs.{KeyMessage.MessagesStandApart, KeyOwner.{IsKeyBound, IsKeyKept, IsUnderOneName}, Law.{IsServedAlone, IsAcceptedOnce, IsAnswered, IsGoneOn, IsRemembered, IsRepeated}, Run.IsOfAllRuns, Standing.IsKeptAtItsPlace};
 
 /// The replies to a device are those at a desk whose devices and lines are that device's alone.
 pub fn device_is_served_alone()

@@ -1,9 +1,6 @@
 ghost use Rattle.std.specs.Prelude.{◌≤◌};
 ghost use Rattle.source_server.specs.Serving.{Serves};
-ghost use Rattle.verifier_desk.specs.Desk.{DeskStandsFor, no_lines_of};
-ghost use Rattle.verifier_desk.specs.Replies.{DeskFields};
-ghost use Rattle.verifier_desk.specs.Serving.{Keeps, desk_promise};
-ghost use Rattle.verifier_desk.specs.Telling.{Grows};
+ghost use Rattle.verifier_desk.specs.{Desk.{DeskStandsFor, no_lines_of}, Replies.DeskFields, Serving.{Keeps, desk_promise}, Telling.Grows};
 
 use crate::answer_fault::AnswerFault;
 use crate::desk::Desk;

@@ -1,12 +1,7 @@
 ghost use Rattle.std.specs.Prelude.{◌≡◌, ◌≤◌, ◌+◌, ◌++◌, ◌∷◌, ◌||◌, false, ℕ, List, length, option_map, IsTrue, OnOk, IfErr};
-ghost use Rattle.desk_memory.specs.Entry.{Entry};
-ghost use Rattle.desk_memory.specs.Kept.{LeavesOr};
+ghost use Rattle.desk_memory.specs.{Entry.Entry, Kept.LeavesOr};
 ghost use Rattle.source_server.specs.HeldLine.{short_line};
-ghost use Rattle.verifier_desk.specs.DeskLine.{desk_line_of};
-ghost use Rattle.verifier_desk.specs.Replies.{DeskFields, gives_report, lines_said};
-ghost use Rattle.verifier_desk.specs.Serving.{HasFailed, Keeps, Outside, StopsAt};
-ghost use Rattle.verifier_desk.specs.Telling.{FailsAt, Grows, PutsHeld, TellsLines, Told};
-ghost use Rattle.verifier_desk.specs.Withheld.{nothing_withheld};
+ghost use Rattle.verifier_desk.specs.{DeskLine.desk_line_of, Replies.{DeskFields, gives_report, lines_said}, Serving.{HasFailed, Keeps, Outside, StopsAt}, Telling.{FailsAt, Grows, PutsHeld, TellsLines, Told}, Withheld.nothing_withheld};
 
 use crate::answer_fault::AnswerFault;
 use crate::desk::Desk;

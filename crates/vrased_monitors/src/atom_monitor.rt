@@ -1,6 +1,5 @@
 ghost use Rattle.std.specs.Prelude.{◌≡◌, true, false};
-ghost use Rattle.part_definitions.specs.MonitorRule.{in_rom, was_inside, atomicity_rule};
-ghost use Rattle.part_definitions.specs.MonitorRule.{breaks_a1, breaks_a2, breaks_a3, breaks_a4};
+ghost use Rattle.part_definitions.specs.MonitorRule.{in_rom, was_inside, atomicity_rule, breaks_a1, breaks_a2, breaks_a3, breaks_a4};
 
 use bus_signals::{CR, KR, Kind, ROM_ENTRY, ROM_EXIT, Rule, Signals, XS, some_reads, some_touches};
 

@@ -1,9 +1,7 @@
 -- Results are numbers of their size.
 use Rattle.std.proofs.Common.{ℕ, ◌<◌, bit_or, bit_xor, bit_and, arith}
 use Rattle.std.proofs.lemmas.Nat.{or_lt, xor_lt, and_le_l}
-use Rattle.word_arith.specs.declared.size.Size.{Size}
-use Rattle.word_arith.specs.declared.size.Size.TheVariants.{Byte, Word}
-use Rattle.word_arith.specs.Number.{modulus}
+use Rattle.word_arith.specs.{declared.size.Size.{Size, TheVariants.{Byte, Word}}, Number.modulus}
 
 pub and_fits : (size : Size) (left right : ℕ) → left < modulus size
     → bit_and left right < modulus size

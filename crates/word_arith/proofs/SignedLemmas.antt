@@ -2,8 +2,7 @@
 use Rattle.std.proofs.Common.{true, false, arith}
 use Rattle.std.proofs.lemmas.Int.{ints}
 use Rattle.std.proofs.lemmas.Bool.Decides.{nat_tests}
-use Rattle.word_arith.specs.declared.size.Size.TheVariants.{Byte, Word}
-use Rattle.word_arith.specs.SignedNumber.{OverflowIsSigned, ComparisonOrders}
+use Rattle.word_arith.specs.{declared.size.Size.TheVariants.{Byte, Word}, SignedNumber.{OverflowIsSigned, ComparisonOrders}}
 
 pub overflow_is_signed : OverflowIsSigned
 overflow_is_signed Byte left right true left_fits right_fits = grind (arith, ints, nat_tests)

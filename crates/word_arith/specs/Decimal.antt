@@ -1,8 +1,6 @@
 -- Sums of binary-coded decimals, one nibble a decimal place.
 use Rattle.std.specs.Prelude.{◌+◌, ◌*◌, ◌/◌, ◌%◌, ℕ, zero, suc, Bool, nat_lt, nat_le, if◌then◌else◌}
-use Rattle.word_arith.specs.declared.size.Size.{Size}
-use Rattle.word_arith.specs.declared.size.Size.TheVariants.{Byte, Word}
-use Rattle.word_arith.specs.Number.{bit_of}
+use Rattle.word_arith.specs.{declared.size.Size.{Size, TheVariants.{Byte, Word}}, Number.bit_of}
 
 -- the sum of the lowest decimal place, with the carry in
 abbrev pub lowest_sum : ℕ → ℕ → Bool → ℕ

@@ -1,7 +1,6 @@
 -- Numbers in binary-coded decimal, and what a decimal sum is of them.
 use Rattle.std.specs.Prelude.{◌≡◌, ◌+◌, ◌*◌, ◌/◌, ◌%◌, ◌^◌, ◌<◌, ℕ, zero, suc, Bool, nat_le}
-use Rattle.word_arith.specs.Number.{bit_of}
-use Rattle.word_arith.specs.Decimal.{decimal_places}
+use Rattle.word_arith.specs.{Number.bit_of, Decimal.decimal_places}
 
 -- the lowest `places` decimal digits of a number, a nibble a digit
 abbrev pub coded_decimal : ℕ → ℕ → ℕ

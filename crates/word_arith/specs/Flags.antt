@@ -1,8 +1,6 @@
 -- The flags that a result has.
 use Rattle.std.specs.Prelude.{ℕ, Bool, ◌==◌}
-use Rattle.word_arith.specs.declared.size.Size.{Size}
-use Rattle.word_arith.specs.declared.flags.Flags.{Flags}
-use Rattle.word_arith.specs.Number.{is_negative}
+use Rattle.word_arith.specs.{declared.{size.Size.Size, flags.Flags.Flags}, Number.is_negative}
 
 -- N is the result's top bit, Z is set where the result is 0; C and V are the operation's own
 abbrev pub result_flags : Size → ℕ → Bool → Bool → Flags

@@ -1,8 +1,6 @@
 -- Operands of 8 or 16 bits as whole numbers.
 use Rattle.std.specs.Prelude.{◌-◌, ◌/◌, ◌%◌, ℕ, Bool, true, false, nat_le}
-use Rattle.word_arith.specs.declared.size.Size.{Size}
-use Rattle.word_arith.specs.declared.size.Size.TheVariants.{Byte, Word}
-use Rattle.word_arith.specs.Word16.{Word16}
+use Rattle.word_arith.specs.{declared.size.Size.{Size, TheVariants.{Byte, Word}}, Word16.Word16}
 
 -- how many numbers there are of a size: an operand is below it
 abbrev pub modulus : Size → ℕ

@@ -1,13 +1,6 @@
 -- Operations of one operand: result and flags, one line an operation.
 use Rattle.std.specs.Prelude.{◌+◌, ◌*◌, ◌/◌, ◌%◌, ℕ, Bool, false, not, ◌==◌, if◌then◌else◌}
-use Rattle.word_arith.specs.declared.size.Size.{Size}
-use Rattle.word_arith.specs.declared.size.Size.TheVariants.{Byte, Word}
-use Rattle.word_arith.specs.declared.flags.Flags.{Flags}
-use Rattle.word_arith.specs.declared.op1.Op1.{Op1}
-use Rattle.word_arith.specs.declared.op1.Op1.TheVariants.{Rrc, Swpb, Rra, Sxt}
-use Rattle.word_arith.specs.Number.{modulus, low_part, is_negative, bit_of}
-use Rattle.word_arith.specs.Flags.{result_flags}
-use Rattle.word_arith.specs.Word16.{Word16}
+use Rattle.word_arith.specs.{declared.{size.Size.{Size, TheVariants.{Byte, Word}}, flags.Flags.Flags, op1.Op1.{Op1, TheVariants.{Rrc, Swpb, Rra, Sxt}}}, Number.{modulus, low_part, is_negative, bit_of}, Flags.result_flags, Word16.Word16}
 
 -- half the operand, with a bit put in at the top; C is the bit that leaves, and V is 0
 abbrev pub shift_of : Size → Word16 → Bool → ℕ × Flags

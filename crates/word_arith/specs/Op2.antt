@@ -1,14 +1,6 @@
 -- Operations of two operands: result and flags, one line an operation.
 use Rattle.std.specs.Prelude.{ℕ, Bool, true, false, not, ◌&&◌, ◌==◌, bit_and, bit_or, bit_xor}
-use Rattle.word_arith.specs.declared.size.Size.{Size}
-use Rattle.word_arith.specs.declared.flags.Flags.{Flags}
-use Rattle.word_arith.specs.declared.op2.Op2.{Op2}
-use Rattle.word_arith.specs.declared.op2.Op2.TheVariants.{Mov, Add, Addc, Subc, Sub, Cmp, Dadd, Bit, Bic, Bis, Xor, And}
-use Rattle.word_arith.specs.Number.{low_part, inverse, is_negative}
-use Rattle.word_arith.specs.Flags.{result_flags}
-use Rattle.word_arith.specs.Sum.{sum_of}
-use Rattle.word_arith.specs.Decimal.{decimal_sum}
-use Rattle.word_arith.specs.Word16.{Word16}
+use Rattle.word_arith.specs.{declared.{size.Size.Size, flags.Flags.Flags, op2.Op2.{Op2, TheVariants.{Mov, Add, Addc, Subc, Sub, Cmp, Dadd, Bit, Bic, Bis, Xor, And}}}, Number.{low_part, inverse, is_negative}, Flags.result_flags, Sum.sum_of, Decimal.decimal_sum, Word16.Word16}
 
 -- a result whose carry says that it is not 0
 abbrev pub test_of : Size → ℕ → Bool → ℕ × Flags

@@ -1,11 +1,6 @@
 -- Operands as signed numbers, and what the flags of a sum and of a comparison say of them.
 use Rattle.std.specs.Prelude.{◌≡◌, ◌↔◌, ◌<◌, ◌≤◌, ◌+ℤ◌, ◌-ℤ◌, ◌<ℤ◌, ℕ, ℤ, pos, Bool, IsTrue, IsFalse, if◌then◌else◌}
-use Rattle.word_arith.specs.declared.size.Size.{Size}
-use Rattle.word_arith.specs.declared.flags.Flags.{Flags}
-use Rattle.word_arith.specs.declared.op2.Op2.TheVariants.{Cmp}
-use Rattle.word_arith.specs.Number.{modulus, is_negative, bit_of, alike}
-use Rattle.word_arith.specs.Sum.{sum_of}
-use Rattle.word_arith.specs.Op2.{alu_of}
+use Rattle.word_arith.specs.{declared.{size.Size.Size, flags.Flags.Flags, op2.Op2.TheVariants.Cmp}, Number.{modulus, is_negative, bit_of, alike}, Sum.sum_of, Op2.alu_of}
 
 -- the number that an operand stands for in two's complement
 abbrev pub signed_value : Size → ℕ → ℤ

@@ -1,9 +1,6 @@
 -- Binary sums with carry and overflow.
 use Rattle.std.specs.Prelude.{◌+◌, ◌%◌, ◌&&◌, ℕ, Bool, not, nat_le}
-use Rattle.word_arith.specs.declared.size.Size.{Size}
-use Rattle.word_arith.specs.declared.flags.Flags.{Flags}
-use Rattle.word_arith.specs.Number.{modulus, is_negative, bit_of, alike}
-use Rattle.word_arith.specs.Flags.{result_flags}
+use Rattle.word_arith.specs.{declared.{size.Size.Size, flags.Flags.Flags}, Number.{modulus, is_negative, bit_of, alike}, Flags.result_flags}
 
 -- two operands of one sign have a sum of the other
 abbrev pub overflows : Size → ℕ → ℕ → ℕ → Bool

@@ -1,6 +1,5 @@
 ghost use Rattle.std.specs.Prelude.{◌≡◌, ◌<◌};
-ghost use Rattle.word_arith.specs.Number.{modulus};
-ghost use Rattle.word_arith.specs.Op2.{alu_result, alu_of, test_of, dadd_of};
+ghost use Rattle.word_arith.specs.{Number.modulus, Op2.{alu_result, alu_of, test_of, dadd_of}};
 
 use crate::decimal_sum::bcd_add;
 use crate::flags::Flags;

@@ -1,6 +1,5 @@
 ghost use Rattle.std.specs.Prelude.{◌≡◌, ◌<◌, ◌^◌};
-ghost use Rattle.word_arith.specs.Decimal.{decimal_places, decimal_sum};
-ghost use Rattle.word_arith.specs.Number.{modulus};
+ghost use Rattle.word_arith.specs.{Decimal.{decimal_places, decimal_sum}, Number.modulus};
 
 use crate::size::Size;
 

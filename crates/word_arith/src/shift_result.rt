@@ -1,6 +1,5 @@
 ghost use Rattle.std.specs.Prelude.{◌≡◌, ◌<◌};
-ghost use Rattle.word_arith.specs.Number.{modulus};
-ghost use Rattle.word_arith.specs.Op1.{shifted_size, shift_result, shift_of, extend_of};
+ghost use Rattle.word_arith.specs.{Number.modulus, Op1.{shifted_size, shift_result, shift_of, extend_of}};
 
 use crate::flags::Flags;
 use crate::op1::Op1;

@@ -1,6 +1,5 @@
 ghost use Rattle.std.specs.Prelude.{◌≡◌, ◌<◌};
-ghost use Rattle.word_arith.specs.Number.{modulus};
-ghost use Rattle.word_arith.specs.Sum.{sum_of};
+ghost use Rattle.word_arith.specs.{Number.modulus, Sum.sum_of};
 
 use crate::flags::Flags;
 use crate::size::Size;

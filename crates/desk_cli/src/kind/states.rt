@@ -11,8 +11,7 @@ const STATES_LIMIT: usize = 4_194_304;
 pub struct States;
 
 impl Kind for States {
-    ghost use Rattle.desk_cli.specs.FileKind.{states_kind};
-    ghost use Rattle.desk_cli.specs.StateFile.{NumberedEntries as Fields};
+    ghost use Rattle.desk_cli.specs.{FileKind.states_kind, StateFile.NumberedEntries as Fields};
 
     type Value = NumberedEntries;
 

@@ -1,7 +1,6 @@
 ghost use Rattle.std.specs.Prelude.{◌≡◌, Bool, List, ℕ, Option};
 ghost use Rattle.input_files.specs.Argument.{texts};
-ghost use Rattle.device_cli.specs.Row.{Row};
-ghost use Rattle.device_cli.specs.Unanswered.{behind_all};
+ghost use Rattle.device_cli.specs.{Row.Row, Unanswered.behind_all};
 
 /// Whether the word `--all` stands in front of arguments, and the others.
 pub fn split_all(arguments: &[String]) -> (bool, &[String])

@@ -22,8 +22,7 @@ pub struct Request<'a> {
 }
 
 impl<'a> Task<'a> for Request<'a> {
-    ghost use Rattle.device_cli.specs.Request.{request_row, request_row_of, request_text};
-    ghost use Rattle.device_cli.specs.Row.{plain};
+    ghost use Rattle.device_cli.specs.{Request.{request_row, request_row_of, request_text}, Row.plain};
 
     type Values = [u8; 64];
 

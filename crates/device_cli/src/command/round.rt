@@ -64,8 +64,7 @@ impl<'a> Task<'a> for Round<'a> {
     ghost use Rattle.std.specs.Prelude.{[]};
     ghost use Rattle.mem_map.specs.Image.{byte_in};
     ghost use Rattle.device_core.specs.Device.{HeldStandsFor};
-    ghost use Rattle.device_cli.specs.Play.{start_of};
-    ghost use Rattle.device_cli.specs.Round.{round_row, round_row_of, round_outcome};
+    ghost use Rattle.device_cli.specs.{Play.start_of, Round.{round_row, round_row_of, round_outcome}};
 
     type Values = RoundValues;
 

@@ -3,8 +3,7 @@ ghost use Rattle.outside_edge.specs.Sink.{Puts, CountsFaults};
 ghost use Rattle.play_script.specs.Script.{events_of};
 ghost use Rattle.device_trace.specs.Trace.{play_of};
 ghost use Rattle.device_core.specs.Device.{HeldStandsFor};
-ghost use Rattle.device_play.specs.Limit.{most_steps};
-ghost use Rattle.device_play.specs.Watching.{IsPoweredOn};
+ghost use Rattle.device_play.specs.{Limit.most_steps, Watching.IsPoweredOn};
 ghost use Rattle.device_cli.specs.Row.{DevicePlay, start_in};
 
 use bus_signals::TraceFlag;
@@ -18,11 +17,8 @@ use play_script::Script;
 pub trait Telling: Watcher + Copy {
     ghost use Rattle.std.specs.Prelude.{◌≡◌, [], Some, true};
     ghost use Rattle.part_definitions.specs.Hmac.{Digest};
-    ghost use Rattle.device_trace.specs.Play.{Play};
-    ghost use Rattle.device_trace.specs.Start.{Start};
-    ghost use Rattle.device_cli.specs.Play.{PlayOutcome};
-    ghost use Rattle.device_cli.specs.Row.{DevicePlay, Outcome};
-    ghost use Rattle.device_cli.specs.Told.{IsToldBy};
+    ghost use Rattle.device_trace.specs.{Play.Play, Start.Start};
+    ghost use Rattle.device_cli.specs.{Play.PlayOutcome, Row.{DevicePlay, Outcome}, Told.IsToldBy};
 
     /// What is put of a play.
     ghost outcome: { PlayOutcome };

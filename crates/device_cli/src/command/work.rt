@@ -1,5 +1,4 @@
-ghost use Rattle.device_cli.specs.Load.{load_text};
-ghost use Rattle.device_cli.specs.TextSummary.{IsSummaryOf};
+ghost use Rattle.device_cli.specs.{Load.load_text, TextSummary.IsSummaryOf};
 
 use crate::ending::Ending;
 use crate::load::line_tally::LineCounts;
@@ -24,8 +23,7 @@ pub struct Work {
 }
 
 impl<'a> Task<'a> for Work {
-    ghost use Rattle.device_cli.specs.Play.{plain_of};
-    ghost use Rattle.device_cli.specs.Work.{load_play, work_line, work_row, work_row_of};
+    ghost use Rattle.device_cli.specs.{Play.plain_of, Work.{load_play, work_line, work_row, work_row_of}};
 
     type Values = Load;
 

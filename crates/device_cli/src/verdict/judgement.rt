@@ -4,12 +4,9 @@ ghost use Rattle.part_definitions.specs.Memory.{PowerOn, ShownFlags, MemoryWrite
 ghost use Rattle.device_trace.specs.Text.{some_line};
 ghost use Rattle.mem_map.specs.Memory.{MemoryStandsFor};
 ghost use Rattle.outside_edge.specs.Sink.{Puts};
-ghost use Rattle.report_verifier.specs.Comparison.{OutputFits};
-ghost use Rattle.report_verifier.specs.Validity.{are_valid_for};
+ghost use Rattle.report_verifier.specs.{Comparison.OutputFits, Validity.are_valid_for, Judge.{judge_of, verdict_at}};
 ghost use Rattle.device_play.specs.Cuts.{CountsWriteFaults, StopsOnlyAt};
-ghost use Rattle.device_cli.specs.Judgement.{TellsOutput, pair_cuts, pair_line, pair_shown, remark_cuts, remark_lines, remark_on, tally_after};
-ghost use Rattle.report_verifier.specs.Judge.{judge_of, verdict_at};
-ghost use Rattle.device_cli.specs.Verdicts.{is_accept};
+ghost use Rattle.device_cli.specs.{Judgement.{TellsOutput, pair_cuts, pair_line, pair_shown, remark_cuts, remark_lines, remark_on, tally_after}, Verdicts.is_accept};
 
 use crate::verdict::tally::Tally;
 use bus_signals::ReportView;

@@ -1,7 +1,6 @@
 use Rattle.std.proofs.Common.{◌≡◌, List}
 use Rattle.std.specs.Prelude.{map}
-use Rattle.asm_text.specs.Operand.{parts_of, all_of}
-use Rattle.asm_text.specs.Statement.{is_readable}
+use Rattle.asm_text.specs.{Operand.{parts_of, all_of}, Statement.is_readable}
 use Rattle.asm_text.proofs.Behind.{behind}
 use Rattle.asm_text.proofs.directive.read_ascii.Given as goal
 

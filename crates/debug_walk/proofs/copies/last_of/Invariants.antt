@@ -1,8 +1,7 @@
 use Rattle.std.proofs.Common.{◌<◌, IfSome}
 use Rattle.std.specs.List.{All}
 use Rattle.debug_session.specs.Place.{Run}
-use Rattle.debug_walk.specs.Copies.{IsCopy}
-use Rattle.debug_walk.specs.Walk.{place_of}
+use Rattle.debug_walk.specs.{Copies.IsCopy, Walk.place_of}
 use Rattle.debug_walk.proofs.copies.last_of.Given as goal
 
 -- the last one so far is one of them, or the other one

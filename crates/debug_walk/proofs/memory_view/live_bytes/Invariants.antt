@@ -1,7 +1,6 @@
 use Rattle.std.proofs.Common.{◌≡◌, ◌-◌, ◌++◌, ℕ, length}
 use Rattle.device_core.specs.Device.{LiveStandsFor}
-use Rattle.debug_session.specs.Place.{Run, play_to, sight_at}
-use Rattle.debug_session.specs.Shown.{bytes_shown}
+use Rattle.debug_session.specs.{Place.{Run, play_to, sight_at}, Shown.bytes_shown}
 use Rattle.debug_walk.proofs.memory_view.live_bytes.Given as goal
 
 abbrev pub invariant-loop-at : goal.invariant-loop-at

@@ -1,6 +1,5 @@
 use Rattle.std.proofs.Common.{◌≡◌, ◌∙◌, ap}
-use Rattle.debug_session.specs.Place.{logs_at, play_to, sight_at}
-use Rattle.debug_session.specs.Shown.{registers_bytes}
+use Rattle.debug_session.specs.{Place.{logs_at, play_to, sight_at}, Shown.registers_bytes}
 use Rattle.debug_walk.specs.Walk.{place_of}
 use Rattle.debug_walk.proofs.memory_view.shown_registers.Goals as goal
 

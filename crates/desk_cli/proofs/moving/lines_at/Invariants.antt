@@ -1,6 +1,5 @@
 use Rattle.std.proofs.Common.{◌≡◌, ◌++◌, drop}
-use Rattle.desk_memory.specs.Entry.{home_fields}
-use Rattle.desk_memory.specs.Moving.{lines_at}
+use Rattle.desk_memory.specs.{Entry.home_fields, Moving.lines_at}
 use Rattle.desk_cli.proofs.moving.lines_at.Given as goal
 
 abbrev pub invariant-loop-entry : goal.invariant-loop-entry

@@ -3,8 +3,7 @@ use Rattle.sqlite_format.specs.Bytes.{u32_at}
 use Rattle.sqlite_disk.specs.Disk.{Holds}
 use Rattle.sqlite_wal.proofs.PartLemmas.{held_is_part}
 use Rattle.sqlite_wal.specs.Recovery.{file_page}
-use Rattle.desk_database.specs.Log.{EndsWithSum, stored_page}
-use Rattle.desk_database.specs.MemoryTables.{page_size}
+use Rattle.desk_database.specs.{Log.{EndsWithSum, stored_page}, MemoryTables.page_size}
 use Rattle.desk_database.proofs.LogLemmas.{version_in_file}
 use Rattle.desk_database.proofs.first_page.read_first_page.Goals as goal
 

@@ -3,18 +3,8 @@ use Rattle.std.proofs.Common.{◌≡◌, ◌∙◌, IsTrue, false, sym, subst, t
 use Rattle.std.specs.Prelude.{◌↔◌}
 use Rattle.sqlite_pool.specs.Opening.{IsBlankFile}
 use Rattle.sqlite_wal.specs.Recovery.{Image}
-use Rattle.desk_database.specs.contracts.log_fit.LogFit.{the_type}
-use Rattle.desk_database.specs.declared.log_fit.LogFit.{LogFit}
-use Rattle.desk_database.specs.declared.log_fit.LogFit.TheVariants.{Begun, Fits, Other}
-use Rattle.desk_database.specs.Log.{FitsMaking, IsLogFit}
-use Rattle.desk_database.specs.Held.{IsKept}
-use Rattle.desk_database.specs.Opening.{WhyUnmade, image_of}
-use Rattle.desk_database.specs.MemoryTables.{page_size}
-use Rattle.desk_database.proofs.FailLemmas.{why_more}
-use Rattle.desk_database.proofs.FilesLemmas.{kept_by_files, looked_kept, now_clean, same_image}
-use Rattle.desk_database.proofs.HeldLemmas.{can_replay}
-use Rattle.desk_database.proofs.LogLemmas.{is_of_making}
-use Rattle.desk_database.proofs.StepLemmas.{cause_on, over_files}
+use Rattle.desk_database.specs.{contracts.log_fit.LogFit.the_type, declared.log_fit.LogFit.{LogFit, TheVariants.{Begun, Fits, Other}}, Log.{FitsMaking, IsLogFit}, Held.IsKept, Opening.{WhyUnmade, image_of}, MemoryTables.page_size}
+use Rattle.desk_database.proofs.{FailLemmas.why_more, FilesLemmas.{kept_by_files, looked_kept, now_clean, same_image}, HeldLemmas.can_replay, LogLemmas.is_of_making, StepLemmas.{cause_on, over_files}}
 use Rattle.desk_database.proofs.memory_store.make_store.Goals as goal
 
 -- what was not told to be another's is of no other opening

@@ -1,18 +1,8 @@
 use denote.Enum.Bare.{sameb}
 use Rattle.std.proofs.Common.{◌≡◌, ◌∙◌, false, true, inl, inr, not, sym, true≢false}
 use Rattle.sqlite_wal.specs.Recovery.{Image}
-use Rattle.desk_database.specs.contracts.log_fit.LogFit.{the_type}
-use Rattle.desk_database.specs.declared.log_fit.LogFit.{LogFit}
-use Rattle.desk_database.specs.declared.log_fit.LogFit.TheVariants.{Begun, Fits, Other}
-use Rattle.desk_database.specs.Log.{FitsLog, IsLogFit}
-use Rattle.desk_database.specs.Begun.{IsBegun}
-use Rattle.desk_database.specs.Held.{IsSpared}
-use Rattle.desk_database.specs.Opening.{WhyUnopened, image_of}
-use Rattle.desk_database.proofs.FailLemmas.{why_more}
-use Rattle.desk_database.proofs.FilesLemmas.{looked_spared, now_clean, spared_by_files}
-use Rattle.desk_database.proofs.HeldLemmas.{can_replay}
-use Rattle.desk_database.proofs.LogLemmas.{is_of_making}
-use Rattle.desk_database.proofs.StepLemmas.{begun_is_spared, cause_on, lacks_on, over_files, something_on}
+use Rattle.desk_database.specs.{contracts.log_fit.LogFit.the_type, declared.log_fit.LogFit.{LogFit, TheVariants.{Begun, Fits, Other}}, Log.{FitsLog, IsLogFit}, Begun.IsBegun, Held.IsSpared, Opening.{WhyUnopened, image_of}}
+use Rattle.desk_database.proofs.{FailLemmas.why_more, FilesLemmas.{looked_spared, now_clean, spared_by_files}, HeldLemmas.can_replay, LogLemmas.is_of_making, StepLemmas.{begun_is_spared, cause_on, lacks_on, over_files, something_on}}
 use Rattle.desk_database.proofs.memory_store.open_store.Goals as goal
 
 is_fit : (image : Image) (fit : LogFit) → not (sameb the_type fit Fits) ≡ false

@@ -4,9 +4,7 @@ use Rattle.std.specs.Vec.{vec_len}
 use Rattle.std.proofs.Math.Logic.{∥∥₁_map}
 use Rattle.sqlite_store.specs.FileStore.{view}
 use Rattle.sqlite_store.specs.Unopened.{IsCatalogOf}
-use Rattle.desk_database.proofs.FailLemmas.{fails_behind}
-use Rattle.desk_database.proofs.HeldLemmas.{as_before, opens_spare}
-use Rattle.desk_database.proofs.CatalogLemmas.{opened_memory, nothing_back, mid_size, nothing_lists, finds_through, spared_through, can_be_opened, has_some_file}
+use Rattle.desk_database.proofs.{FailLemmas.fails_behind, HeldLemmas.{as_before, opens_spare}, CatalogLemmas.{opened_memory, nothing_back, mid_size, nothing_lists, finds_through, spared_through, can_be_opened, has_some_file}}
 use Rattle.desk_database.proofs.memory_store.open_tables.Goals as goal
 
 pub returns-then-is_empty-clause-lacks : goal.returns-then-is_empty-clause-lacks

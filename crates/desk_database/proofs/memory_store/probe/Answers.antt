@@ -1,10 +1,8 @@
 use Rattle.std.proofs.Common.{IsTrue, sym, subst}
 use Rattle.std.specs.Prelude.{◌↔◌}
 use Rattle.sqlite_pool.specs.Opening.{IsBlankFile}
-use Rattle.desk_database.specs.Opening.{image_of}
-use Rattle.desk_database.specs.MemoryTables.{page_size}
-use Rattle.desk_database.proofs.FailLemmas.{from_log}
-use Rattle.desk_database.proofs.FilesLemmas.{read_image}
+use Rattle.desk_database.specs.{Opening.image_of, MemoryTables.page_size}
+use Rattle.desk_database.proofs.{FailLemmas.from_log, FilesLemmas.read_image}
 use Rattle.desk_database.proofs.memory_store.probe.Goals as goal
 
 pub returns-in-Err-clause-cause : goal.returns-in-Err-clause-cause

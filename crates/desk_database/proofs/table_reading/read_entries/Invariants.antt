@@ -2,8 +2,7 @@ use Rattle.std.proofs.Common.{◌≡◌, ◌++◌, List, IsSome, length, true}
 use Rattle.sqlite_value.specs.Order.{Row}
 use Rattle.sqlite_trees.specs.View.{IsClean, IsQuiet}
 use Rattle.desk_memory.specs.SizedEntry.{are_sized}
-use Rattle.desk_database.specs.TableOpening.{Reads}
-use Rattle.desk_database.specs.Rows.{rows_from}
+use Rattle.desk_database.specs.{TableOpening.Reads, Rows.rows_from}
 use Rattle.desk_database.proofs.table_reading.read_entries.Given as goal
 
 abbrev pub invariant-loop-place : goal.invariant-loop-place

@@ -2,8 +2,7 @@ use Rattle.std.proofs.Common.{◌≡◌, ◌≤◌, ◌<◌, ◌∙◌, ⊎_elim
 use Rattle.debug_session.specs.Request.{most_steps}
 use Rattle.debug_walk.specs.Walk.{place_of}
 use Rattle.device_debug.specs.Seek.{step_in}
-use Rattle.device_debug.proofs.Arrived.{back-begun, back-found, back-interrupted, back-none}
-use Rattle.device_debug.proofs.Back.{NoneBehind, none-further}
+use Rattle.device_debug.proofs.{Arrived.{back-begun, back-found, back-interrupted, back-none}, Back.{NoneBehind, none-further}}
 use Rattle.device_debug.proofs.backwards.go_back.Goals as goal
 
 pub returns-then-end-le1-clause-goes : goal.returns-then-end-le1-clause-goes

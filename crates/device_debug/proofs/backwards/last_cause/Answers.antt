@@ -1,17 +1,11 @@
 use Rattle.std.proofs.Common.{◌≡◌, ◌≤◌, ◌<◌, ◌∙◌, ◌⊎◌, ℕ, true, subst, sym, arith}
 use Rattle.std.specs.Option.{option_or}
 use Rattle.std.specs.Prelude.{None, nat_lt, if◌then◌else◌}
-use Rattle.debug_session.specs.Cause.{cause, refusal_or, stop_of}
-use Rattle.debug_session.specs.Place.{sight_at, view_of}
-use Rattle.debug_walk.specs.Walk.{IsStretch, place_of}
-use Rattle.debug_walk.specs.declared.stretch.Stretch.{Stretch}
-use Rattle.debug_session.specs.declared.watch.Watch.{Watch}
+use Rattle.debug_session.specs.{Cause.{cause, refusal_or, stop_of}, Place.{sight_at, view_of}, declared.watch.Watch.Watch}
+use Rattle.debug_walk.specs.{Walk.{IsStretch, place_of}, declared.stretch.Stretch.Stretch}
 use Rattle.std.specs.Prelude.{List}
-use Rattle.device_debug.specs.Back.{IsLastBehind, stop_with_place, seek_back}
-use Rattle.device_debug.specs.Seek.{step_in, steps_by}
-use Rattle.device_debug.proofs.Kept.{exact-tells}
-use Rattle.device_debug.proofs.LookingBack.{looks-back, looks-first, looks-on}
-use Rattle.device_debug.proofs.backwards.last_cause.Goals.{else-loop-here-test, then-loop-here-test+else-here-last}
+use Rattle.device_debug.specs.{Back.{IsLastBehind, stop_with_place, seek_back}, Seek.{step_in, steps_by}}
+use Rattle.device_debug.proofs.{Kept.exact-tells, LookingBack.{looks-back, looks-first, looks-on}, backwards.last_cause.Goals.{else-loop-here-test, then-loop-here-test+else-here-last}}
 use Rattle.device_debug.proofs.backwards.last_cause.Goals as goal
 
 pub loop-here-preserved : goal.loop-here-preserved

@@ -1,22 +1,11 @@
 use Rattle.std.proofs.Common.{◌≡◌, ◌≤◌, ◌<◌, ◌-◌, ◌+◌, ◌∙◌, ℕ, suc, refl, Some, None, Ok, Err, ap, subst, sym, arith}
 use Rattle.std.specs.Prelude.{codes, ◌++◌}
 use Rattle.printed_lines.specs.Line.{reset_line}
-use Rattle.debug_session.specs.Request.{most_steps}
-use Rattle.debug_link.specs.Console.{console}
-use Rattle.debug_link.specs.Writing.{PutsPackets}
-use Rattle.debug_link.specs.declared.answer_fault.AnswerFault.{AnswerFault}
-use Rattle.debug_session.specs.Cause.{cause}
-use Rattle.debug_session.specs.Going.{first_stop, interrupted}
-use Rattle.debug_session.specs.Place.{view_of}
-use Rattle.debug_walk.specs.Copies.{TrackStandsFor}
-use Rattle.debug_walk.specs.Walk.{place_of}
-use Rattle.debug_session.specs.declared.stop.Stop.TheVariants.{End, Interrupted, Refused}
-use Rattle.device_debug.specs.Ahead.{refused_at, seek_ahead}
-use Rattle.device_debug.specs.Going.{GoesOn, StandsAt}
-use Rattle.device_debug.specs.Seek.{step_in}
-use Rattle.device_debug.specs.Telling.{TellsStep}
-use Rattle.device_debug.proofs.Ahead.{cause_by}
-use Rattle.device_debug.proofs.Going.{GoesFrom, IsGoing, before-most, cause-is, end-fails, goes-on, goes-over, going-ends, going-first, going-interrupted, look-failed, passes-on, refusal-fails, stops-before, stops-over, stops-there, tell-failed, walk-fails}
+use Rattle.debug_session.specs.{Request.most_steps, Cause.cause, Going.{first_stop, interrupted}, Place.view_of, declared.stop.Stop.TheVariants.{End, Interrupted, Refused}}
+use Rattle.debug_link.specs.{Console.console, Writing.PutsPackets, declared.answer_fault.AnswerFault.AnswerFault}
+use Rattle.debug_walk.specs.{Copies.TrackStandsFor, Walk.place_of}
+use Rattle.device_debug.specs.{Ahead.{refused_at, seek_ahead}, Going.{GoesOn, StandsAt}, Seek.step_in, Telling.TellsStep}
+use Rattle.device_debug.proofs.{Ahead.cause_by, Going.{GoesFrom, IsGoing, before-most, cause-is, end-fails, goes-on, goes-over, going-ends, going-first, going-interrupted, look-failed, passes-on, refusal-fails, stops-before, stops-over, stops-there, tell-failed, walk-fails}}
 use Rattle.device_debug.proofs.forwards.go_forwards.Goals as goal
 
 pub loop-look-init : goal.loop-look-init

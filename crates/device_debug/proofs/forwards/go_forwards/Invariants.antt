@@ -1,10 +1,7 @@
 use Rattle.std.proofs.Common.{◌≡◌, ◌≤◌, ◌-◌}
-use Rattle.debug_session.specs.Request.{most_steps}
-use Rattle.debug_session.specs.Place.{Run}
-use Rattle.debug_walk.specs.Copies.{TrackStandsFor}
-use Rattle.debug_walk.specs.Walk.{Walks, place_of}
-use Rattle.device_debug.specs.Going.{StandsAt}
-use Rattle.device_debug.specs.Seek.{step_in}
+use Rattle.debug_session.specs.{Request.most_steps, Place.Run}
+use Rattle.debug_walk.specs.{Copies.TrackStandsFor, Walk.{Walks, place_of}}
+use Rattle.device_debug.specs.{Going.StandsAt, Seek.step_in}
 use Rattle.device_debug.proofs.Going.{IsGoing}
 use Rattle.device_debug.proofs.forwards.go_forwards.Given as goal
 

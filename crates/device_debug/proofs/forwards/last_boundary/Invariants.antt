@@ -1,7 +1,6 @@
 use Rattle.std.proofs.Common.{◌≡◌, ◌≤◌, ◌-◌}
 use Rattle.debug_session.specs.Place.{Run, view_of}
-use Rattle.debug_walk.specs.Copies.{TrackStandsFor}
-use Rattle.debug_walk.specs.Walk.{Walks, place_of}
+use Rattle.debug_walk.specs.{Copies.TrackStandsFor, Walk.{Walks, place_of}}
 use Rattle.device_debug.specs.Ahead.{last_boundary}
 use Rattle.device_debug.proofs.forwards.last_boundary.Given as goal
 

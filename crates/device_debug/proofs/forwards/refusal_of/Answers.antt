@@ -1,8 +1,7 @@
 use Rattle.std.proofs.Common.{◌∙◌, Some, None, ap, sym}
 use Rattle.debug_session.specs.Place.{play_to}
 use Rattle.debug_walk.specs.Walk.{place_of}
-use Rattle.device_core.specs.StepLine.{rule_in_line}
-use Rattle.device_core.specs.declared.step_line.StepLine.{StepLine}
+use Rattle.device_core.specs.{StepLine.rule_in_line, declared.step_line.StepLine.StepLine}
 use Rattle.device_debug.proofs.Boundaries.{refusal-was}
 use Rattle.device_debug.proofs.forwards.refusal_of.Goals as goal
 

@@ -1,15 +1,10 @@
 use Rattle.std.proofs.Common.{◌≡◌, ◌∙◌, ◌-◌, ◌+◌, ◌++◌, ◌<◌, ℕ, List, suc, ap, refl, subst, sym, arith}
-use Rattle.debug_session.specs.Request.{most_steps}
+use Rattle.debug_session.specs.{Request.most_steps, Monitor.texts_from, Place.{Run, step_sight, view_of}, Sight.StepSight}
 use Rattle.device_core.specs.Device.{LiveStandsFor}
 use Rattle.device_trace.specs.Trace.{play_of}
-use Rattle.debug_link.proofs.AddedText.{PutsPrefix, adds_failed, prefix_none}
-use Rattle.debug_link.proofs.Faults.{counts_memory, counts_passed, counts_unwritten}
-use Rattle.debug_session.specs.Monitor.{texts_from}
-use Rattle.debug_session.specs.Place.{Run, step_sight, view_of}
-use Rattle.debug_session.specs.Sight.{StepSight}
+use Rattle.debug_link.proofs.{AddedText.{PutsPrefix, adds_failed, prefix_none}, Faults.{counts_memory, counts_passed, counts_unwritten}}
 use Rattle.debug_session.proofs.Views.{next-at}
-use Rattle.debug_walk.specs.PlayedRun.{played_run}
-use Rattle.debug_walk.specs.Walk.{place_of, second_flag}
+use Rattle.debug_walk.specs.{PlayedRun.played_run, Walk.{place_of, second_flag}}
 use Rattle.device_debug.specs.StepText.{text_in}
 use Rattle.device_debug.proofs.AddedSteps.{all_added, no_step_added, one_step_added, step_failed}
 use Rattle.device_debug.proofs.monitor.add_texts.Goals as goal

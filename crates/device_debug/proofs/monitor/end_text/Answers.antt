@@ -2,8 +2,7 @@ use Rattle.std.proofs.Common.{◌∙◌, ℕ, ap}
 use Rattle.debug_session.specs.Place.{logs_at, play_to, sight_at}
 use Rattle.debug_walk.specs.Walk.{place_of}
 use Rattle.printed_lines.specs.Line.{end_line}
-use Rattle.device_trace.specs.Logs.{exec_of}
-use Rattle.device_trace.specs.Progress.{next_pc_of}
+use Rattle.device_trace.specs.{Logs.exec_of, Progress.next_pc_of}
 use Rattle.device_play.proofs.IdlePlay.{length-play_of}
 use Rattle.device_debug.specs.GrownText.{GrownText}
 use Rattle.device_debug.proofs.GrownTexts.{grown-all}

@@ -1,20 +1,13 @@
 use Rattle.std.proofs.Common.{◌≡◌, ◌∙◌, ◌≤◌, ◌-◌, ◌++◌, ℕ, List, [], ap, refl, subst, sym, min, arith}
 use Rattle.std.proofs.Math.Nat.{min_comm, sub-add-min_cancel}
 use Rattle.std.proofs.lemmas.List.{append-nil}
-use Rattle.debug_session.specs.Request.{most_steps}
-use Rattle.debug_session.specs.declared.request.Request.TheVariants.{Flags, Steps}
-use Rattle.debug_link.specs.Console.{console}
-use Rattle.debug_link.specs.Writing.{PutsPackets}
+use Rattle.debug_session.specs.{Request.most_steps, declared.request.Request.TheVariants.{Flags, Steps}, Monitor.{flags_text, last_lines, request_text, texts_from}, Place.view_of, Sight.Sight}
+use Rattle.debug_link.specs.{Console.console, Writing.PutsPackets}
 use Rattle.debug_link.proofs.Bodies.{put_none}
-use Rattle.debug_session.specs.Monitor.{flags_text, last_lines, request_text, texts_from}
-use Rattle.debug_session.specs.Place.{view_of}
-use Rattle.debug_session.specs.Sight.{Sight}
 use Rattle.debug_session.proofs.Views.{view-at}
 use Rattle.debug_walk.specs.Walk.{place_of}
-use Rattle.device_debug.specs.StepText.{text_in}
-use Rattle.device_debug.specs.declared.step_text.StepText.TheVariants.{Lines, Trace as TraceText}
-use Rattle.device_debug.proofs.AskedTexts.{asked-put}
-use Rattle.device_debug.proofs.RefusalText.{puts-none}
+use Rattle.device_debug.specs.{StepText.text_in, declared.step_text.StepText.TheVariants.{Lines, Trace as TraceText}}
+use Rattle.device_debug.proofs.{AskedTexts.asked-put, RefusalText.puts-none}
 use Rattle.device_debug.proofs.monitor.tell.Goals as goal
 
 pub returns-in-Steps-clause-tells : goal.returns-in-Steps-clause-tells

@@ -1,10 +1,8 @@
 use Rattle.std.proofs.Common.{◌≡◌, ◌∙◌, arith, min, subst}
 use Rattle.bus_signals.specs.Address.{Bytes}
-use Rattle.debug_session.specs.Place.{sight_at}
-use Rattle.debug_session.specs.Shown.{bytes_shown}
+use Rattle.debug_session.specs.{Place.sight_at, Shown.bytes_shown}
 use Rattle.outside_edge.specs.Sink.{Puts}
-use Rattle.device_live.specs.Answer.{run_of}
-use Rattle.device_live.specs.Shown.{memory_text}
+use Rattle.device_live.specs.{Answer.run_of, Shown.memory_text}
 use Rattle.device_live.proofs.shown.print_memory.Goals as goal
 
 pub returns-clause-puts : goal.returns-clause-puts

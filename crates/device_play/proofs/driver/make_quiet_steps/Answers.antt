@@ -1,7 +1,6 @@
 use Rattle.std.proofs.Common.{◌≡◌, ◌≤◌, ◌<◌, ◌∙◌, ◌-◌, [], ℕ, sym, subst, arith}
 use Rattle.device_trace.specs.Trace.{play_of}
-use Rattle.device_core.specs.Device.{LiveStandsFor, steps_made}
-use Rattle.device_core.specs.Quiet.{IsQuiet}
+use Rattle.device_core.specs.{Device.{LiveStandsFor, steps_made}, Quiet.IsQuiet}
 use Rattle.device_play.proofs.IdlePlay.{idle-play, quiet-at}
 use Rattle.device_play.proofs.driver.make_quiet_steps.Goals as goal
 

@@ -1,12 +1,8 @@
 use Rattle.std.proofs.Common.{◌≡◌, ◌∙◌, ◌-◌, [], sym, arith}
 use Rattle.device_trace.specs.Start.{Start}
 use Rattle.play_script.specs.Script.{events_of}
-use Rattle.device_core.specs.Device.{HeldStandsFor, steps_made}
-use Rattle.device_core.specs.declared.live.Live.TheVariants.{Held}
-use Rattle.device_play.proofs.WatchedPlay.{IsToSee, at-count, begin-failed, end-failed, gone-to-see, see-failed, seen-under_way, watched-all}
-use Rattle.device_play.proofs.WriteCounts.{counts-passed, counts-write}
-use Rattle.device_play.proofs.driver.play_before.Given.{Over}
-use Rattle.device_play.proofs.driver.play_before.Goals.{After-steps-in-loop-playback}
+use Rattle.device_core.specs.{Device.{HeldStandsFor, steps_made}, declared.live.Live.TheVariants.Held}
+use Rattle.device_play.proofs.{WatchedPlay.{IsToSee, at-count, begin-failed, end-failed, gone-to-see, see-failed, seen-under_way, watched-all}, WriteCounts.{counts-passed, counts-write}, driver.play_before.{Given.Over, Goals.After-steps-in-loop-playback}}
 use Rattle.device_play.proofs.driver.play_before.Goals as goal
 
 -- what `see` is told: the device after the last step, and the tally and the sink before it

@@ -1,7 +1,6 @@
 use Rattle.std.proofs.Common.{◌≡◌, ◌≤◌, ◌<◌, ◌∙◌, ◌-◌, ◌∷◌, [], ℕ, suc, true, refl, sym, subst, arith, rules}
 use Rattle.device_trace.specs.Trace.{play_of}
-use Rattle.device_core.specs.Device.{LiveStandsFor, steps_made}
-use Rattle.device_core.specs.Silence.{is_silent}
+use Rattle.device_core.specs.{Device.{LiveStandsFor, steps_made}, Silence.is_silent}
 use Rattle.device_play.proofs.IdlePlay.{idle-play, silent-at}
 use Rattle.device_play.proofs.driver.play_to_shown.Goals as goal
 

@@ -1,16 +1,9 @@
 use Rattle.std.proofs.Common.{refl}
-use Rattle.word_arith.specs.Op2.{alu_result}
-use Rattle.word_arith.specs.Op1.{shift_result}
+use Rattle.word_arith.specs.{Op2.alu_result, Op1.shift_result}
 use Rattle.msp_decode.specs.Head.{head_of}
-use Rattle.part_definitions.specs.Attestation.{call_items}
-use Rattle.part_definitions.specs.FirstRule.{first_rule}
-use Rattle.part_definitions.specs.NextAccess.{next_access, entry_access}
-use Rattle.part_definitions.specs.MonitorRule.{key_rule, atomicity_rule}
+use Rattle.part_definitions.specs.{Attestation.call_items, FirstRule.first_rule, NextAccess.{next_access, entry_access}, MonitorRule.{key_rule, atomicity_rule}}
 use Rattle.bus_signals.specs.ExecFlag.{exec}
-use Rattle.device_trace.specs.Logs.{with_events, with_record}
-use Rattle.device_trace.specs.Signals.{signals_at}
-use Rattle.device_trace.specs.Step.{record_of, next_record}
-use Rattle.device_trace.specs.Trace.{logs_after, trace}
+use Rattle.device_trace.specs.{Logs.{with_events, with_record}, Signals.signals_at, Step.{record_of, next_record}, Trace.{logs_after, trace}}
 use Rattle.mac_coverage.proofs.example.denied_call_writes_decision.Goals as goal
 
 pub returns : goal.returns

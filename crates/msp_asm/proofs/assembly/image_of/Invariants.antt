@@ -1,8 +1,7 @@
 use Rattle.std.proofs.Common.{◌≡◌, ℕ, None, IsTrue, reverse, take}
 use Rattle.part_definitions.specs.Memory.{is_image_place}
 use Rattle.mem_map.specs.Image.{byte_in}
-use Rattle.msp_asm.specs.FirstPass.{first_fault}
-use Rattle.msp_asm.specs.SecondPass.{byte_placed, second_pass_fault}
+use Rattle.msp_asm.specs.{FirstPass.first_fault, SecondPass.{byte_placed, second_pass_fault}}
 use Rattle.msp_asm.proofs.assembly.image_of.Given as goal
 
 abbrev pub invariant-loop-i : goal.invariant-loop-i

@@ -1,6 +1,5 @@
 use Rattle.std.proofs.Common.{◌≡◌, ◌<◌, ℕ, None, length, reverse, take, slice_index}
-use Rattle.msp_asm.specs.FirstPass.{scope_after, first_fault, first_pass_fault}
-use Rattle.msp_asm.specs.FirstPassStands.{FirstPassStandsFor}
+use Rattle.msp_asm.specs.{FirstPass.{scope_after, first_fault, first_pass_fault}, FirstPassStands.FirstPassStandsFor}
 use Rattle.msp_asm.proofs.assembly.names_and_places.Given as goal
 
 abbrev pub invariant-loop-statement : goal.invariant-loop-statement

@@ -1,8 +1,7 @@
 use Rattle.std.proofs.Common.{◌≡◌, ◌≤◌, ◌+◌, ◌-◌, ◌||◌, ℕ}
 use Rattle.std.specs.List.{list_all, list_any}
 use Rattle.part_definitions.specs.Memory.{is_image_place}
-use Rattle.msp_asm.specs.FirstPass.{places_from, is_among}
-use Rattle.msp_asm.specs.FirstPassState.{occupies}
+use Rattle.msp_asm.specs.{FirstPass.{places_from, is_among}, FirstPassState.occupies}
 use Rattle.msp_asm.proofs.space.take_places.Given as goal
 
 abbrev pub invariant-loop-step : goal.invariant-loop-step

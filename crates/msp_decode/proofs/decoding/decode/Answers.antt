@@ -1,6 +1,5 @@
 use Rattle.std.proofs.Common.{◌∙◌, sym, ap, arith, Some}
-use Rattle.msp_decode.proofs.HeadLemmas.{head_of-one, head_of-two, spells_where_found}
-use Rattle.msp_decode.proofs.IllegalLemmas.{illegal_where_none}
+use Rattle.msp_decode.proofs.{HeadLemmas.{head_of-one, head_of-two, spells_where_found}, IllegalLemmas.illegal_where_none}
 use Rattle.msp_decode.proofs.decoding.decode.Goals as goal
 
 pub returns-in-4096-to-4863-clause-spelled : goal.returns-in-4096-to-4863-clause-spelled

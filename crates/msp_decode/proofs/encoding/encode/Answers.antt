@@ -1,7 +1,5 @@
 use Rattle.std.proofs.Common.{◌≡◌, ◌∙◌, ℕ, List, None, ap, sym, subst, rules}
-use Rattle.msp_decode.specs.Completion.{head_part, words_of}
-use Rattle.msp_decode.specs.EncodeFault.{first_fault}
-use Rattle.msp_decode.specs.Law.{AreReadAs}
+use Rattle.msp_decode.specs.{Completion.{head_part, words_of}, EncodeFault.first_fault, Law.AreReadAs}
 use Rattle.msp_decode.proofs.WordLemmas.{words_are_read}
 use Rattle.msp_decode.proofs.encoding.encode.Goals as goal
 

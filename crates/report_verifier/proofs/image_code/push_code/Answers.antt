@@ -2,8 +2,7 @@ use Rattle.std.proofs.Common.{arith, rules, ◌≡◌, ◌-◌, ◌++◌}
 use Rattle.std.proofs.Math.Path.{subst}
 use Rattle.mem_map.specs.Image.{byte_in, image_byte}
 use Rattle.part_definitions.specs.Memory.{bytes_from}
-use Rattle.report_verifier.proofs.CodeBytes.{append-none}
-use Rattle.report_verifier.proofs.Pushes.{byte-pushed}
+use Rattle.report_verifier.proofs.{CodeBytes.append-none, Pushes.byte-pushed}
 use Rattle.report_verifier.proofs.image_code.push_code.Goals as goal
 
 pub loop-place-init : goal.loop-place-init

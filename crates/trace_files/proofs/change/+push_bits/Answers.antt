@@ -1,6 +1,5 @@
 use Rattle.std.proofs.Common.{◌∙◌, ◌++◌, ℕ, List, length, ap, arith}
-use Rattle.trace_files.proofs.Binary.{last_digit, room_half, room_more, room_one, text_more, text_one}
-use Rattle.trace_files.proofs.change.+push_bits.Goals.{then-number-gt1, else-number-gt1}
+use Rattle.trace_files.proofs.{Binary.{last_digit, room_half, room_more, room_one, text_more, text_one}, change.+push_bits.Goals.{then-number-gt1, else-number-gt1}}
 use Rattle.trace_files.proofs.change.+push_bits.Goals as goal
 
 pub push_bits-requires : goal.push_bits-requires

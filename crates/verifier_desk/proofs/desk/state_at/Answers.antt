@@ -1,7 +1,6 @@
 use Rattle.std.proofs.Common.{◌∙◌, ℕ, List, ap, ap₂}
 use Rattle.sha2.specs.Sha256.{sha256}
-use Rattle.desk_memory.specs.Entry.{last_in, state_under}
-use Rattle.desk_memory.specs.KeyMark.{key_mark}
+use Rattle.desk_memory.specs.{Entry.{last_in, state_under}, KeyMark.key_mark}
 use Rattle.verifier_desk.specs.DeviceKey.{DeviceKey}
 use Rattle.verifier_desk.proofs.desk.state_at.Goals as goal
 

@@ -1,9 +1,7 @@
 use Rattle.std.proofs.Common.{◌≡◌, ◌<◌, ℕ, vec_len}
 use Rattle.std.specs.Prelude.{slice_index_or}
-use Rattle.desk_memory.specs.declared.device_state.DeviceState.{DeviceState}
+use Rattle.desk_memory.specs.{declared.device_state.DeviceState.DeviceState, Entry.{last_in, state_under}, KeyMark.key_mark}
 use Rattle.sha2.specs.Sha256.{sha256}
-use Rattle.desk_memory.specs.Entry.{last_in, state_under}
-use Rattle.desk_memory.specs.KeyMark.{key_mark}
 use Rattle.verifier_desk.specs.DeviceKey.{DeviceKey}
 use Rattle.verifier_desk.proofs.desk.states_in.Given as goal
 

@@ -1,6 +1,5 @@
 use Rattle.std.proofs.Common.{[], ◌∷◌}
-use Rattle.verifier_desk.proofs.HeldReplies.{answered_of_told}
-use Rattle.verifier_desk.proofs.MoreLines.{fails_more}
+use Rattle.verifier_desk.proofs.{HeldReplies.answered_of_told, MoreLines.fails_more}
 use Rattle.verifier_desk.proofs.telling.stop_before_report.Goals as goal
 
 pub returns-in-Ok-clause-stops : goal.returns-in-Ok-clause-stops

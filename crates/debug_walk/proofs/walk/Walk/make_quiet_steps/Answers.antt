@@ -1,8 +1,7 @@
 use Rattle.std.proofs.Common.{◌≡◌, ◌<◌, ◌≤◌, ◌∙◌, ⊎_elim, sym, subst, arith}
 use Rattle.std.proofs.lemmas.Bool.{cases_lt}
 use Rattle.device_core.specs.Device.{steps_made}
-use Rattle.debug_walk.specs.Passing.{IsCapped}
-use Rattle.debug_walk.specs.Walk.{TellsCause}
+use Rattle.debug_walk.specs.{Passing.IsCapped, Walk.TellsCause}
 use Rattle.debug_walk.proofs.QuietWalks.{quiet-row}
 use Rattle.debug_walk.proofs.walk.Walk.make_quiet_steps.Goals as goal
 

@@ -1,8 +1,7 @@
 use Rattle.std.proofs.Common.{false, sym, subst, arith}
 use Rattle.device_core.specs.Device.{steps_made}
 use Rattle.debug_walk.specs.Walk.{TellsCause, place_of}
-use Rattle.debug_walk.proofs.SilentSteps.{silent-there}
-use Rattle.debug_walk.proofs.Unasked.{tells-unasked}
+use Rattle.debug_walk.proofs.{SilentSteps.silent-there, Unasked.tells-unasked}
 use Rattle.debug_walk.proofs.walk.Walk.play.Goals as goal
 
 pub returns-clause-walks : goal.returns-clause-walks

@@ -1,8 +1,6 @@
 use Rattle.std.proofs.Common.{◌≡◌, ◌∙◌, suc, refl, subst, sym, add-one, arith}
 use Rattle.debug_walk.specs.Walk.{IsStretch, TellsCause, place_of, second_flag, stretch_there}
-use Rattle.debug_walk.proofs.StretchSteps.{stretch-step}
-use Rattle.debug_walk.proofs.TellsSteps.{tells-step, tells-there}
-use Rattle.debug_walk.proofs.WalkSteps.{IsMade, entry-made, keeps-there, seen-made}
+use Rattle.debug_walk.proofs.{StretchSteps.stretch-step, TellsSteps.{tells-step, tells-there}, WalkSteps.{IsMade, entry-made, keeps-there, seen-made}}
 use Rattle.debug_walk.proofs.walk.Walk.step.Goals as goal
 
 pub returns-clause-walks : goal.returns-clause-walks

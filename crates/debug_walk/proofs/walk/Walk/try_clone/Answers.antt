@@ -1,8 +1,6 @@
 use Rattle.std.proofs.Common.{◌≡◌, ◌∙◌, true, ap, sym, subst, arith}
 use Rattle.device_trace.specs.Trace.{play_of}
-use Rattle.device_core.specs.Device.{DeviceStandsFor, steps_made, steps_of}
-use Rattle.device_core.specs.declared.live.Live.TheVariants.{Running}
-use Rattle.device_core.specs.declared.stage.Stage.TheVariants.{Running as RunningStage}
+use Rattle.device_core.specs.{Device.{DeviceStandsFor, steps_made, steps_of}, declared.{live.Live.TheVariants.Running, stage.Stage.TheVariants.Running as RunningStage}}
 use Rattle.device_play.specs.Midway.{IsMidway}
 use Rattle.debug_session.specs.Place.{sight_at}
 use Rattle.debug_walk.specs.Walk.{place_of, second_flag}

@@ -1,12 +1,8 @@
 use Rattle.std.proofs.Common.{◌≡◌, ◌∷◌, None, false, sym}
 use Rattle.bus_signals.specs.SeenRecord.{SeenRecord}
 use Rattle.mem_map.specs.Memory.{MemoryStandsFor}
-use Rattle.device_trace.specs.Logs.{flags_of, flags_shown, logged_bounds, memory_after, with_record}
-use Rattle.device_trace.specs.Progress.{last_registers}
-use Rattle.device_trace.specs.Signals.{signals_of, value_read}
-use Rattle.device_trace.specs.Step.{dma_value_read}
-use Rattle.device_core.proofs.CalmRegion.{calm_entry, calm-entry, calm-flags, calm-leaves, turn-access, turn-pc}
-use Rattle.device_core.proofs.CalmStep.{calm-peripherals, calm-silent}
+use Rattle.device_trace.specs.{Logs.{flags_of, flags_shown, logged_bounds, memory_after, with_record}, Progress.last_registers, Signals.{signals_of, value_read}, Step.dma_value_read}
+use Rattle.device_core.proofs.{CalmRegion.{calm_entry, calm-entry, calm-flags, calm-leaves, turn-access, turn-pc}, CalmStep.{calm-peripherals, calm-silent}}
 use Rattle.device_core.proofs.bus.Bus.end_calm_step.Goals as goal
 
 pub returns-clause-stands : goal.returns-clause-stands

@@ -1,6 +1,5 @@
 use Rattle.std.proofs.Common.{◌≡◌, ◌∙◌, ap, false, sym}
-use Rattle.device_trace.specs.Logs.{flags_of, logged_bounds}
-use Rattle.device_trace.specs.Signals.{signals_of, value_read}
+use Rattle.device_trace.specs.{Logs.{flags_of, logged_bounds}, Signals.{signals_of, value_read}}
 use Rattle.device_core.proofs.CalmRegion.{calm-signals, quiet-where-watched, turn-access}
 use Rattle.device_core.proofs.bus.Bus.read_calmly.Goals as goal
 

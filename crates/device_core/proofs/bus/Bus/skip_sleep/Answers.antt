@@ -1,11 +1,8 @@
 use Rattle.std.proofs.Common.{◌≡◌, ℕ, refl, sym, subst, arith}
 use Rattle.mem_map.specs.Memory.{MemoryStandsFor}
 use Rattle.part_definitions.specs.Memory.{ShownFlags}
-use Rattle.device_trace.specs.Logs.{flags_of}
-use Rattle.device_trace.specs.Peripherals.{Peripherals}
-use Rattle.device_core.specs.Bus.{LastStandsFor}
-use Rattle.device_core.specs.Peripherals.{PeripheralsStandFor}
-use Rattle.device_core.specs.Sleep.{Sleeps, logs_idle}
+use Rattle.device_trace.specs.{Logs.flags_of, Peripherals.Peripherals}
+use Rattle.device_core.specs.{Bus.LastStandsFor, Peripherals.PeripheralsStandFor, Sleep.{Sleeps, logs_idle}}
 use Rattle.device_core.proofs.Sleep.{asleep, asleep-step, sleeps-on}
 use Rattle.device_core.proofs.bus.Bus.skip_sleep.Goals as goal
 

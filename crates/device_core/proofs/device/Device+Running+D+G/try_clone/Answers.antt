@@ -1,6 +1,5 @@
 use Rattle.std.proofs.Common.{subst, sym}
-use Rattle.device_core.specs.Machine.{PlaysAt}
-use Rattle.device_core.specs.declared.stage.Stage.TheVariants.{Running}
+use Rattle.device_core.specs.{Machine.PlaysAt, declared.stage.Stage.TheVariants.Running}
 use Rattle.device_core.proofs.device.Device+Running+D+G.try_clone.Goals as goal
 
 pub returns-clause-stands : goal.returns-clause-stands

@@ -1,5 +1,4 @@
-use Rattle.device_core.proofs.OneLine.{denial-decided}
-use Rattle.device_core.proofs.ReportLaws.{decided-covered}
+use Rattle.device_core.proofs.{OneLine.denial-decided, ReportLaws.decided-covered}
 use Rattle.device_core.proofs.live.Live.denied.Goals as goal
 
 pub returns-in-Some-Denied-clause-covered : goal.returns-in-Some-Denied-clause-covered

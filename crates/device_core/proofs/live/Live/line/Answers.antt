@@ -1,7 +1,5 @@
 use Rattle.std.proofs.Common.{◌∙◌, sym}
-use Rattle.device_core.proofs.Decisions.{last_decision-Some}
-use Rattle.device_core.proofs.Lives.{live-kept, live-unkept}
-use Rattle.device_core.proofs.OneLine.{no-line, plain-line}
+use Rattle.device_core.proofs.{Decisions.last_decision-Some, Lives.{live-kept, live-unkept}, OneLine.{no-line, plain-line}}
 use Rattle.device_core.proofs.live.Live.line.Goals as goal
 
 pub returns-then-finishes_call : goal.returns-then-finishes_call

@@ -1,9 +1,7 @@
 use Rattle.std.proofs.Common.{◌≡◌, ◌∙◌, ◌-◌, length, Some, ap, sym}
 use Rattle.part_definitions.specs.Request.{ATTESTS}
-use Rattle.device_trace.specs.Text.{last_decision}
-use Rattle.device_trace.specs.Trace.{logs_after}
-use Rattle.device_core.proofs.Decisions.{decision-some}
-use Rattle.device_core.proofs.OneLine.{denial-line, report-line}
+use Rattle.device_trace.specs.{Text.last_decision, Trace.logs_after}
+use Rattle.device_core.proofs.{Decisions.decision-some, OneLine.{denial-line, report-line}}
 use Rattle.device_core.proofs.live.Live.line_of_call.Goals as goal
 
 pub returns-then-machine-eq-ATTESTS : goal.returns-then-machine-eq-ATTESTS

@@ -1,8 +1,6 @@
 use Rattle.std.proofs.Common.{◌+◌, refl, arith}
 use Rattle.device_core.specs.Silence.{with_idle}
-use Rattle.device_core.proofs.CalmRuns.{region-idle}
-use Rattle.device_core.proofs.Idle.{goes-idle, silent-more, silent-unkept}
-use Rattle.device_core.proofs.QuietSteps.{quiet-more}
+use Rattle.device_core.proofs.{CalmRuns.region-idle, Idle.{goes-idle, silent-more, silent-unkept}, QuietSteps.quiet-more}
 use Rattle.device_core.proofs.machine.Machine.make_calm_steps_in.Goals as goal
 
 pub loop-made-init : goal.loop-made-init

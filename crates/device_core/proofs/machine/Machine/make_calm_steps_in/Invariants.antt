@@ -1,12 +1,6 @@
 use Rattle.std.proofs.Common.{◌≡◌, ◌≤◌, ◌-◌, None}
-use Rattle.device_trace.specs.Play.{Play}
-use Rattle.device_trace.specs.Start.{Start}
-use Rattle.device_trace.specs.Trace.{logs_after}
-use Rattle.device_core.specs.Calm.{IsCalmRegion}
-use Rattle.device_core.specs.Machine.{PlaysAt}
-use Rattle.device_core.specs.Quiet.{AreQuiet}
-use Rattle.device_core.specs.Silence.{with_idle, AreSilent}
-use Rattle.device_core.specs.declared.stage.Stage.TheVariants.{Running}
+use Rattle.device_trace.specs.{Play.Play, Start.Start, Trace.logs_after}
+use Rattle.device_core.specs.{Calm.IsCalmRegion, Machine.PlaysAt, Quiet.AreQuiet, Silence.{with_idle, AreSilent}, declared.stage.Stage.TheVariants.Running}
 use Rattle.device_core.proofs.machine.Machine.make_calm_steps_in.Given as goal
 
 -- at most so many steps, none of which was kept; the machine stands for the play with the steps so

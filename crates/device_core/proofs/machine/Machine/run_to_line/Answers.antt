@@ -1,7 +1,6 @@
 use Rattle.std.proofs.Common.{◌∙◌, ◌+◌, sym, arith, subst}
 use Rattle.device_trace.specs.Play.{Play}
-use Rattle.device_core.specs.Machine.{PlaysAt}
-use Rattle.device_core.specs.Silence.{with_idle}
+use Rattle.device_core.specs.{Machine.PlaysAt, Silence.with_idle}
 use Rattle.device_core.proofs.Idle.{goes-idle, idle-after, silent-after, silent-unkept, silent-more, silent-less, fewer-silent}
 use Rattle.device_core.proofs.machine.Machine.run_to_line.Goals as goal
 

@@ -1,6 +1,5 @@
 use Rattle.std.proofs.Common.{◌≤◌, ◌-◌}
-use Rattle.device_trace.specs.Play.{Play}
-use Rattle.device_trace.specs.Start.{Start}
+use Rattle.device_trace.specs.{Play.Play, Start.Start}
 use Rattle.device_core.specs.Machine.{HasPlayedOn, PlaysAt}
 use Rattle.device_core.proofs.machine.Machine.run_to_line.Given as goal
 

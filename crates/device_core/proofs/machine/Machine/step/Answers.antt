@@ -1,6 +1,4 @@
-use Rattle.device_trace.specs.Logs.{with_events}
-use Rattle.device_trace.specs.Step.{next_record}
-use Rattle.device_trace.specs.Trace.{logs_after}
+use Rattle.device_trace.specs.{Logs.with_events, Step.next_record, Trace.logs_after}
 use Rattle.device_core.proofs.machine.Machine.step.Goals as goal
 
 pub returns-clause-stands : goal.returns-clause-stands

@@ -1,6 +1,5 @@
 use Rattle.std.proofs.Common.{sym, subst}
-use Rattle.device_core.specs.Machine.{PlaysOn}
-use Rattle.device_core.specs.declared.stage.Stage.{Stage}
+use Rattle.device_core.specs.{Machine.PlaysOn, declared.stage.Stage.Stage}
 use Rattle.device_core.proofs.machine.Machine.take_fast_path_from.Goals as goal
 
 pub returns-in-Running-clause-plays : goal.returns-in-Running-clause-plays

@@ -1,12 +1,8 @@
 use Rattle.std.proofs.Common.{◌∙◌, false, sym, ap}
 use Rattle.part_definitions.specs.CpuState.{cpu_after}
 use Rattle.device_trace.specs.Progress.{last_registers}
-use Rattle.device_core.specs.Machine.{cpu_of}
-use Rattle.device_core.specs.Quiet.{all_quiet}
-use Rattle.device_core.proofs.CalmRegion.{calm-answer, turn-access}
-use Rattle.device_core.proofs.CalmRuns.{calm-kind, goes-calmly, middle-legal, middle-opcode}
-use Rattle.device_core.proofs.Levels.{level-middle}
-use Rattle.device_core.proofs.Turns.{middle-within, runs-middle, takes-value}
+use Rattle.device_core.specs.{Machine.cpu_of, Quiet.all_quiet}
+use Rattle.device_core.proofs.{CalmRegion.{calm-answer, turn-access}, CalmRuns.{calm-kind, goes-calmly, middle-legal, middle-opcode}, Levels.level-middle, Turns.{middle-within, runs-middle, takes-value}}
 use Rattle.device_core.proofs.machine.Machine.try_calm_access.Goals as goal
 
 pub returns-in-Some-clause-made : goal.returns-in-Some-clause-made

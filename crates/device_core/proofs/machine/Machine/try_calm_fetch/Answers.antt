@@ -1,18 +1,11 @@
 use Rattle.std.proofs.Common.{◌≡◌, ◌∙◌, ℕ, None, false, refl, sym, ap}
-use Rattle.bus_signals.specs.declared.kind.Kind.TheVariants.{Cpu}
-use Rattle.bus_signals.specs.Address.{even}
-use Rattle.part_definitions.specs.CpuRegister.{pc_of}
-use Rattle.part_definitions.specs.CpuState.{Boundary, cpu_after}
-use Rattle.part_definitions.specs.NextAccess.{is_illegal}
+use Rattle.bus_signals.specs.{declared.kind.Kind.TheVariants.Cpu, Address.even}
+use Rattle.part_definitions.specs.{CpuRegister.pc_of, CpuState.{Boundary, cpu_after}, NextAccess.is_illegal}
 use Rattle.msp_exec.specs.Level.{level_begun}
-use Rattle.device_trace.specs.Level.{level_after}
-use Rattle.device_trace.specs.Progress.{Progress, Runs, last_registers}
+use Rattle.device_trace.specs.{Level.level_after, Progress.{Progress, Runs, last_registers}}
 use borrow.Author.Tests.{not-true}
 use Rattle.device_core.specs.Quiet.{all_quiet}
-use Rattle.device_core.proofs.CalmRegion.{turn-access}
-use Rattle.device_core.proofs.CalmRuns.{fetched-legal, goes-calmly, opcode-fetched}
-use Rattle.device_core.proofs.Levels.{level-begun}
-use Rattle.device_core.proofs.Turns.{boundary-access, boundary-step, turn-within}
+use Rattle.device_core.proofs.{CalmRegion.turn-access, CalmRuns.{fetched-legal, goes-calmly, opcode-fetched}, Levels.level-begun, Turns.{boundary-access, boundary-step, turn-within}}
 use Rattle.device_core.proofs.machine.Machine.try_calm_fetch.Goals as goal
 
 pub returns-then-begin_here-clause-made : goal.returns-then-begin_here-clause-made

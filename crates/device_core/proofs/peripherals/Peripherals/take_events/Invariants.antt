@@ -1,6 +1,5 @@
 use Rattle.std.proofs.Common.{take}
-use Rattle.device_trace.specs.Peripherals.{Peripherals as PeripheralLogs}
-use Rattle.device_trace.specs.Peripherals.{with_all_events}
+use Rattle.device_trace.specs.Peripherals.{Peripherals as PeripheralLogs, with_all_events}
 use Rattle.device_core.specs.Peripherals.{PeripheralsStandFor}
 use Rattle.device_core.proofs.peripherals.Peripherals.take_events.Given as goal
 

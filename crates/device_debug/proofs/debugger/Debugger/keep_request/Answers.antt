@@ -1,6 +1,5 @@
 use Rattle.std.proofs.Common.{ap, refl}
-use Rattle.debug_session.specs.Session.{until_of}
-use Rattle.debug_session.specs.Stops.{Stops}
+use Rattle.debug_session.specs.{Session.until_of, Stops.Stops}
 use Rattle.device_debug.proofs.Answering.{no-until, other-stops}
 use Rattle.device_debug.proofs.debugger.Debugger.keep_request.Goals as goal
 

@@ -1,5 +1,4 @@
-use Rattle.device_debug.proofs.Answering.{none-said}
-use Rattle.device_debug.proofs.Gone.{request-failed, told-request}
+use Rattle.device_debug.proofs.{Answering.none-said, Gone.{request-failed, told-request}}
 use Rattle.device_debug.proofs.debugger.Debugger.monitor.Goals as goal
 
 pub returns-in_err-current_walk-clause-gives : goal.returns-in_err-current_walk-clause-gives

@@ -1,12 +1,7 @@
 use Rattle.std.proofs.Common.{◌≡◌, ◌∙◌, ℕ, Option, Ok, Err, ap}
-use Rattle.debug_session.specs.declared.command.Way.TheVariants.{Ahead, Back}
-use Rattle.debug_session.specs.Going.{interrupted, where_to}
-use Rattle.debug_session.specs.Stops.{Stops}
-use Rattle.device_debug.specs.Seek.{step_in}
-use Rattle.device_debug.specs.Session.{view_in}
-use Rattle.device_debug.specs.declared.debugger.Debugger.{Debugger}
-use Rattle.device_debug.proofs.Answering.{may-fail}
-use Rattle.device_debug.proofs.Gone.{failed-on, goes-as, goes-back-as, stays-as, went-back, went-on}
+use Rattle.debug_session.specs.{declared.command.Way.TheVariants.{Ahead, Back}, Going.{interrupted, where_to}, Stops.Stops}
+use Rattle.device_debug.specs.{Seek.step_in, Session.view_in, declared.debugger.Debugger.Debugger}
+use Rattle.device_debug.proofs.{Answering.may-fail, Gone.{failed-on, goes-as, goes-back-as, stays-as, went-back, went-on}}
 use Rattle.device_debug.proofs.debugger.Debugger.resume.Goals as goal
 
 pub returns-in_err-walk-in-Ahead-clause-gives : goal.returns-in_err-walk-in-Ahead-clause-gives

@@ -1,7 +1,6 @@
 use Rattle.std.proofs.Common.{sym}
 use Rattle.hex.specs.Hex.{encode_lower}
-use Rattle.device_debug.proofs.Answering.{half-said, said}
-use Rattle.device_debug.proofs.Showing.{memory-said, nothing-shown, secret-refused}
+use Rattle.device_debug.proofs.{Answering.{half-said, said}, Showing.{memory-said, nothing-shown, secret-refused}}
 use Rattle.device_debug.proofs.debugger.Debugger.show_memory.Goals as goal
 
 pub returns-in_err-put_digits-clause-gives : goal.returns-in_err-put_digits-clause-gives

@@ -1,6 +1,5 @@
 use Rattle.hex.specs.Hex.{encode_lower}
-use Rattle.device_debug.proofs.Answering.{half-said, said}
-use Rattle.device_debug.proofs.Showing.{registers-said}
+use Rattle.device_debug.proofs.{Answering.{half-said, said}, Showing.registers-said}
 use Rattle.device_debug.proofs.debugger.Debugger.show_registers.Goals as goal
 
 pub returns-in_err-put_digits-clause-gives : goal.returns-in_err-put_digits-clause-gives

@@ -1,6 +1,5 @@
 use Rattle.std.proofs.Common.{◌≡◌, ◌∙◌, Some, refl, sym}
-use Rattle.device_live.proofs.Alive.{alive}
-use Rattle.device_live.proofs.ToCome.{keeps-later}
+use Rattle.device_live.proofs.{Alive.alive, ToCome.keeps-later}
 use Rattle.device_live.proofs.living.Living.live_on.Goals as goal
 
 pub returns-clause-lives : goal.returns-clause-lives

@@ -1,6 +1,5 @@
 use Rattle.std.proofs.Common.{append-nil}
-use Rattle.trace_files.specs.WaveText.{header, steps_text}
-use Rattle.trace_files.specs.WaveSamples.{wave_samples}
+use Rattle.trace_files.specs.{WaveText.{header, steps_text}, WaveSamples.wave_samples}
 use Rattle.device_play.proofs.GoesOn.{wave-goes_on}
 use Rattle.device_play.proofs.wave_watcher.WaveWatcherWatcher.begin.Goals as goal
 

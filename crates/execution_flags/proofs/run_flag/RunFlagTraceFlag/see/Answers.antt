@@ -1,9 +1,7 @@
 use Rattle.std.proofs.Common.{◌≡◌, ◌&&◌, ◌||◌, ◌∙◌, not, sym, ap}
-use Rattle.bus_signals.specs.SeenRecord.{SeenRecord}
-use Rattle.bus_signals.specs.ExecFlag.{starts_run}
-use Rattle.execution_flags.proofs.UnclearedRun.{flag-cons}
+use Rattle.bus_signals.specs.{SeenRecord.SeenRecord, ExecFlag.starts_run}
+use Rattle.execution_flags.proofs.{UnclearedRun.flag-cons, run_flag.RunFlagTraceFlag.see.Goals.{then-self, else-self, then-starts_run, else-starts_run}}
 use Rattle.execution_flags.proofs.run_flag.RunFlagTraceFlag.see.Goals as goal
-use Rattle.execution_flags.proofs.run_flag.RunFlagTraceFlag.see.Goals.{then-self, else-self, then-starts_run, else-starts_run}
 
 pub returns : goal.returns
 returns g c = λ records stands last.

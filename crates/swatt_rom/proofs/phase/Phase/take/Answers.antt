@@ -1,12 +1,7 @@
 use Rattle.std.proofs.Common.{◌≡◌, ◌+◌, ◌++◌, ◌∷◌, ◌∙◌, [], ℕ, List, length, length-append, ap, refl, subst, sym, rules, arith}
-use Rattle.part_definitions.specs.Attestation.{region_words}
-use Rattle.part_definitions.specs.Request.{ATTESTS}
-use Rattle.swatt_rom.specs.RomCall.{next_word}
-use Rattle.swatt_rom.specs.Phase.{PhaseStandsFor, HasDecided, IsBeforeReturn}
-use Rattle.swatt_rom.specs.declared.phase.Phase.TheVariants.{ReadsRequest, WritesDerivedKey, ReadsRegion, WritesInnerDigest, WritesMac}
-use Rattle.swatt_rom.proofs.WordsPassed.{bounds_read-append, call_key-append, metadata_read-append, decision_read-append}
-use Rattle.swatt_rom.proofs.Accesses.{next_word-request, next_word-decision, next_word-region}
-use Rattle.swatt_rom.proofs.Steps.{goes_on, ends_with, decided-first, decided-more, decided-denies, decided-attests, derived_key-more, region-more, region-last, inner_digest-more, inner_digest-last, mac-last, mac-more}
+use Rattle.part_definitions.specs.{Attestation.region_words, Request.ATTESTS}
+use Rattle.swatt_rom.specs.{RomCall.next_word, Phase.{PhaseStandsFor, HasDecided, IsBeforeReturn}, declared.phase.Phase.TheVariants.{ReadsRequest, WritesDerivedKey, ReadsRegion, WritesInnerDigest, WritesMac}}
+use Rattle.swatt_rom.proofs.{WordsPassed.{bounds_read-append, call_key-append, metadata_read-append, decision_read-append}, Accesses.{next_word-request, next_word-decision, next_word-region}, Steps.{goes_on, ends_with, decided-first, decided-more, decided-denies, decided-attests, derived_key-more, region-more, region-last, inner_digest-more, inner_digest-last, mac-last, mac-more}}
 use Rattle.swatt_rom.proofs.phase.Phase.take.Goals as goal
 
 pub returns-in_err-take-in-ReadsRequest : goal.returns-in_err-take-in-ReadsRequest

@@ -3,17 +3,9 @@ use Rattle.std.specs.Prelude.{slice_index_or}
 use Rattle.std.proofs.lemmas.Result.{err_from_is_err_and}
 use Rattle.sha2.specs.Sha256.{sha256}
 use Rattle.report_verifier.specs.Judge.{Judge}
-use Rattle.desk_memory.specs.declared.device_state.DeviceState.{DeviceState}
-use Rattle.desk_memory.specs.DeviceState.{is_new}
-use Rattle.verifier_desk.specs.DeviceKey.{DeviceKey}
-use Rattle.verifier_desk.specs.DeviceLine.{DeviceLine}
-use Rattle.verifier_desk.specs.DeviceReply.{answer_after, is_new_give, state_after}
-use Rattle.verifier_desk.specs.OwnLine.{line_in}
-use Rattle.verifier_desk.specs.Reply.{ReplyFields}
-use Rattle.verifier_desk.specs.Replies.{answer_line, judge_at, state_at}
-use Rattle.verifier_desk.proofs.DeskError.{on_error, same_desk}
-use Rattle.verifier_desk.proofs.NotedReply.{line_noted}
-use Rattle.verifier_desk.proofs.Standing.{kept_at_its_place, said_at_place, same_device}
+use Rattle.desk_memory.specs.{declared.device_state.DeviceState.DeviceState, DeviceState.is_new}
+use Rattle.verifier_desk.specs.{DeviceKey.DeviceKey, DeviceLine.DeviceLine, DeviceReply.{answer_after, is_new_give, state_after}, OwnLine.line_in, Reply.ReplyFields, Replies.{answer_line, judge_at, state_at}}
+use Rattle.verifier_desk.proofs.{DeskError.{on_error, same_desk}, NotedReply.line_noted, Standing.{kept_at_its_place, said_at_place, same_device}}
 use Rattle.verifier_desk.proofs.desk.Desk.answer_at.Goals as goal
 
 pub returns-in_err-outcome-clause-kept : goal.returns-in_err-outcome-clause-kept

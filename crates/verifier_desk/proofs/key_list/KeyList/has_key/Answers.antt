@@ -1,7 +1,6 @@
 use Rattle.std.proofs.Common.{◌∙◌, arith, ap, sym}
-use Rattle.verifier_desk.specs.DeviceKey.{has_key}
+use Rattle.verifier_desk.specs.{DeviceKey.has_key, Places.place_in}
 use Rattle.std.specs.Str.{bytes_eq}
-use Rattle.verifier_desk.specs.Places.{place_in}
 use Rattle.verifier_desk.proofs.PlacedWords.{keyed_there, missed, missed_behind, unkeyed}
 use Rattle.verifier_desk.proofs.key_list.KeyList.has_key.Goals as goal
 

@@ -1,7 +1,4 @@
-use Rattle.device_cli.specs.Audit.{audit_outcome}
-use Rattle.device_cli.specs.FileKind.{trace_kind}
-use Rattle.device_cli.specs.Row.{put}
-use Rattle.device_cli.specs.LawfulPlay.{IsPutLawfully}
+use Rattle.device_cli.specs.{Audit.audit_outcome, FileKind.trace_kind, Row.put, LawfulPlay.IsPutLawfully}
 use Rattle.device_cli.proofs.LawfulRow.{read-always}
 use Rattle.device_cli.proofs.command.audit.AuditTask.read.Goals as goal
 

@@ -1,7 +1,6 @@
 use Rattle.std.proofs.Common.{ap, sym, refl}
 use Rattle.mem_map.specs.Image.{byte_in}
-use Rattle.device_cli.specs.Play.{play_with}
-use Rattle.device_cli.specs.Row.{DevicePlay, ending_of}
+use Rattle.device_cli.specs.{Play.play_with, Row.{DevicePlay, ending_of}}
 use Rattle.device_cli.proofs.Putting.{fails}
 use Rattle.device_cli.proofs.command.play_command.PlayCommandTask.put.Goals as goal
 

@@ -1,5 +1,4 @@
-use Rattle.device_cli.specs.Round.{round_outcome}
-use Rattle.device_cli.specs.Row.{put}
+use Rattle.device_cli.specs.{Round.round_outcome, Row.put}
 use Rattle.device_cli.proofs.LawfulRow.{round_row_lawful}
 use Rattle.device_cli.proofs.command.round.RoundTask.read.Goals as goal
 

@@ -1,9 +1,6 @@
 use Rattle.input_files.specs.FileKind.{image_kind, key_kind, policy_kind}
-use Rattle.device_cli.specs.FileKind.{reports_kind}
+use Rattle.device_cli.specs.{FileKind.reports_kind, Row.put, Verify.verify_outcome, LawfulPlay.IsPutLawfully}
 use Rattle.report_verifier.specs.Judge.{judge_with}
-use Rattle.device_cli.specs.Row.{put}
-use Rattle.device_cli.specs.Verify.{verify_outcome}
-use Rattle.device_cli.specs.LawfulPlay.{IsPutLawfully}
 use Rattle.device_cli.proofs.LawfulRow.{read-always}
 use Rattle.device_cli.proofs.command.verify.VerifyTask.read.Goals as goal
 

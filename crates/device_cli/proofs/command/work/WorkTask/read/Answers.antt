@@ -1,6 +1,5 @@
 use Rattle.std.proofs.Common.{rules}
-use Rattle.device_cli.proofs.LawfulRow.{work_row_lawful}
-use Rattle.device_cli.proofs.LoadText.{load-reads}
+use Rattle.device_cli.proofs.{LawfulRow.work_row_lawful, LoadText.load-reads}
 use Rattle.device_cli.proofs.command.work.WorkTask.read.Goals as goal
 
 pub returns-clause-reads : goal.returns-clause-reads

@@ -1,8 +1,7 @@
 use Rattle.device_play.proofs.PutsLemmas.{takes-nothing}
 use Rattle.report_verifier.specs.Judge.{judge_of}
 use Rattle.device_cli.specs.RoundText.{round_pieces}
-use Rattle.device_cli.proofs.RoundLines.{judge-goes_on}
-use Rattle.device_cli.proofs.Tallies.{tally-none}
+use Rattle.device_cli.proofs.{RoundLines.judge-goes_on, Tallies.tally-none}
 use Rattle.device_cli.proofs.verdict.judging.JudgingWatcher.begin.Goals as goal
 
 pub returns-clause-goes_on : goal.returns-clause-goes_on

@@ -1,18 +1,10 @@
 use Rattle.std.proofs.Common.{◌∷◌, arith}
-use Rattle.device_trace.specs.Logs.{flags_of}
-use Rattle.device_trace.specs.Trace.{logs_after}
+use Rattle.device_trace.specs.{Logs.flags_of, Trace.logs_after, Text.{lines_of_step, some_line}}
 use Rattle.outside_edge.proofs.SinkLemmas.{prefix_of_more}
-use Rattle.report_verifier.specs.Judge.{Judge}
-use Rattle.device_trace.specs.Text.{lines_of_step, some_line}
-use Rattle.device_play.proofs.SeenStep.{seen-failed}
-use Rattle.device_play.proofs.WriteCounts.{counts-passed}
-use Rattle.report_verifier.specs.Judge.{judge_of}
-use Rattle.device_cli.specs.JudgedPlay.{judge_account}
-use Rattle.device_cli.specs.Judgement.{remark_lines}
-use Rattle.device_cli.specs.RoundText.{reports_in}
-use Rattle.device_cli.proofs.JudgedStep.{judged-failed, judged-seen, remark}
-use Rattle.device_cli.proofs.RoundLines.{last_report-output}
-use Rattle.device_cli.proofs.Tallies.{counted-few, verdicts-few}
+use Rattle.report_verifier.specs.Judge.{Judge, judge_of}
+use Rattle.device_play.proofs.{SeenStep.seen-failed, WriteCounts.counts-passed}
+use Rattle.device_cli.specs.{JudgedPlay.judge_account, Judgement.remark_lines, RoundText.reports_in}
+use Rattle.device_cli.proofs.{JudgedStep.{judged-failed, judged-seen, remark}, RoundLines.last_report-output, Tallies.{counted-few, verdicts-few}}
 use Rattle.device_cli.proofs.verdict.judging.JudgingWatcher.see.Goals as goal
 
 pub judge_last-requires : goal.judge_last-requires
