@@ -8,7 +8,7 @@ import re
 from sample_files import read
 from trial import ROOT
 
-MOST_OF_A_CRATE, MOST, MOST_OUTSIDE = 12, 90, 20
+MOST_OF_A_CRATE, MOST, MOST_OUTSIDE = 5, 90, 20
 
 
 def fault_of(crate, text):
