@@ -92,7 +92,7 @@ class Step:
         self.outputs = {"rule": rule_number(rule), **flags, **dict(self.conditions())}
 
     def named(self, name):
-        return self.of.named("trace_audit", "Clean", name)
+        return self.of.named("trace_files", "Clean", name)
 
     def seen_in(self, lines):
         """The records that the flags are of."""
