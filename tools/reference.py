@@ -288,6 +288,21 @@ class Part(NamedTuple):
     word: str
     text: str
 
+    def said_of(self, words):
+        return self.text if words is None or not self.word or self.word in words else ""
+
+
+class PartOfSome(NamedTuple):
+    """A part of a text that is said of some commands, which it names in the place of `{}`."""
+    commands: tuple
+    text: str
+
+    def said_of(self, words):
+        named = [f"`{name}`" for name in self.commands if words is None or name in words]
+        *most, last = named or [""]
+        names = f"{', '.join(most)} or {last}" if most else last
+        return self.text.format(names) if named else ""
+
 
 OR = "; or "  # what a part begins with that may stand first
 
@@ -298,8 +313,7 @@ def said_of(words, text):
     """
     parts = [Part("", text)] if isinstance(text, str) else [
         Part("", part) if isinstance(part, str) else part for part in text]
-    said = "".join(part.text for part in parts
-                   if words is None or not part.word or part.word in words)
+    said = "".join(part.said_of(words) for part in parts)
     return said[len(OR):] if said.startswith(OR) else said
 
 
@@ -333,9 +347,7 @@ STATUSES = {
     4: Status("reading failed",
               ("a file is there and cannot be read: a folder, a path through a file, a lack of "
                "rights, a broken disk",
-               Part("desk", "; or standard input of `desk` cannot be read"),
-               Part("debug", "; or standard input of `debug` cannot be read"),
-               Part("live", "; or standard input of `live` cannot be read")), "likewise"),
+               PartOfSome(WITH_INPUT, "; or standard input of {} cannot be read")), "likewise"),
     5: Status("writing failed", "standard output took only a prefix of the text",
               "free space, or keep the pipe open"),
     6: Status("no memory",
@@ -357,9 +369,7 @@ STATUSES = {
     13: Status("bad trace: line L: K", "the first fault of the trace file", "likewise"),
     14: Status("bad keys: line L: K", "the first fault of a desk's keys", "likewise"),
     15: Status("input is too long",
-               (Part("desk", "`desk` took 1,073,741,824 bytes of standard input"),
-                Part("debug", "; or `debug` took 1,073,741,824 bytes of standard input"),
-                Part("live", "; or `live` took 1,073,741,824 bytes of standard input")),
+               (PartOfSome(WITH_INPUT, "{} took 1,073,741,824 bytes of standard input"),),
                (Part("desk", "start the desk anew with its memory: `docs/desk.md`"),
                 Part("debug", "; or connect GDB anew"),
                 Part("live", "; or begin anew")), WITH_INPUT),

@@ -74,14 +74,14 @@ Exit status, and the line on standard error:
       command)
   3   one of the files is not there (file is absent)
   4   a file is there and cannot be read: a folder, a path through a file, a
-      lack of rights, a broken disk; or standard input of `debug` cannot be
-      read; or standard input of `live` cannot be read (reading failed)
+      lack of rights, a broken disk; or standard input of `debug` or `live`
+      cannot be read (reading failed)
   5   standard output took only a prefix of the text (writing failed)
   6   the system refused memory; nothing was printed, or in `debug` a prefix of
       the answers, or in `live` the answers to all lines before one (no memory)
   7   the key is not 128 hexadecimal digits in one line (bad key: line L: K)
   8   the image's first fault (bad image: line L: K)
   9   the script's first fault (bad script: line L: K)
-  15  `debug` took 1,073,741,824 bytes of standard input; or `live` took
-      1,073,741,824 bytes of standard input (input is too long)
+  15  `debug` or `live` took 1,073,741,824 bytes of standard input (input is too
+      long)
 ";
