@@ -8,8 +8,10 @@ In `single backticks` a document names what the repository has. What another pro
 of openMSP430, a package or a setting of GDB, stands in ``two``, which look the same. Of a span
 these are looked at: a path, of which one in src/, specs/ or proofs/ is of a crate that its section
 names; a name of four letters or more that is the whole of it; an option. Of spans and of lines that
-are set in: what follows foldgneiss, make and --only. Lines that are printed, numbers and signs are
-no names. What a build makes (build/, out/) is no file of the repository.
+are set in: what follows foldgneiss, make and --only; what rt check --only names is of a crate that
+its section names. Of the pictures of docs/architecture.md a word with _ or :: in it. Lines that are
+printed, numbers and signs are no names. What a build makes (build/, out/) is no file of the
+repository.
 """
 import glob
 import os
@@ -32,6 +34,8 @@ OPTION = re.compile(r"--[a-z-]+")
 COMMAND = re.compile(r"(?<![\w/-])(?:\./)?foldgneiss +([^\s|;)&`,]+)")
 GOALS = re.compile(r"\bmake (?:-f \S+ )?([a-z.]+(?: [a-z.]+)*)$", re.M)
 GROUPS = re.compile(r"check-program --only ([a-z_,]+)")
+FUNCTION = re.compile(r"rt check --only (\w+(?:::\w+)*)")
+BARE = re.compile(r"\b\w+(?:::\w+)+|\b[A-Za-z]+_\w+")  # (a name without backticks)
 # What a file of a crate declares: functions, types, members, the labels of clauses; definitions and
 # their fields. A variant, or a field of a type, begins its line.
 DECLARED = {".rt": re.compile(r"\b(?:fn|struct|enum|trait|type|const|static|mod|impl|for|ensures"
@@ -196,6 +200,24 @@ def paths_in_crates(trial, names, document, text):
                 trial.fault(f"{document}: no {path} in {', '.join(sorted(crates))}")
 
 
+def functions_to_check(trial, names, document, text):
+    """A function that rt check --only names is of a crate that its section names."""
+    for section in re.split(r"^#+ ", text, flags=re.M):
+        crates = {*re.findall(r"\w+", section)} & {*names.of_crate}
+        for function in FUNCTION.findall(section):
+            trial.tries += 1
+            if not any({*function.split("::")} <= names.of_crate[crate] for crate in crates):
+                trial.fault(f"{document}: no {function} in {', '.join(sorted(crates))}")
+
+
+def bare_names(trial, names, text):
+    """In the document that says which crate is what, each name in a picture is there too."""
+    for name in dict.fromkeys(BARE.findall(re.sub(r"[\w.*-]+/[\w.*/-]+", "", blocks(text)))):
+        trial.tries += 1
+        if not names.has_name(name):
+            trial.fault(f"{CRATES}: no name {name}")
+
+
 def crates_named(trial, names, document, text):
     """In `CRATE`: `A`, `B` and in `A` of `CRATE` the names are of that crate."""
     named = [(crate, name) for crate, list_of in
@@ -285,7 +307,10 @@ def names(trial, files):
         spans(trial, known, document, text)
         lines_to_type(trial, known, document, text)
         paths_in_crates(trial, known, document, text)
+        functions_to_check(trial, known, document, text)
         crates_named(trial, known, document, text)
         links(trial, document, text)
-    crates_told(trial, read(f"{ROOT}/{CRATES}").decode())
+    told = read(f"{ROOT}/{CRATES}").decode()
+    bare_names(trial, known, told)
+    crates_told(trial, told)
     statements(trial, read(f"{ROOT}/{PROVED}").decode())
