@@ -2,7 +2,7 @@
 of the repository, that the lines which a reader types call what is there, that links lead
 somewhere, that docs/architecture.md has each crate, and that docs/proved.md names each law, each
 clause in the file that declares it, and each edit that the prover has to refuse beside a clause of
-its crate.
+its crate, and that no entry of docs/DECISIONS.md is too long.
 
 In `single backticks` a document names what the repository has. What another project has, as a wire
 of openMSP430, a package or a setting of GDB, stands in ``two``, which look the same. Of a span
@@ -23,6 +23,7 @@ from sample_files import read
 from trial import ROOT
 
 PROVED, CRATES = "docs/proved.md", "docs/architecture.md"
+DECISIONS, MOST_WORDS = "docs/DECISIONS.md", 60  # (of an entry)
 TELLS_THE_PAST = ("CHANGELOG.md",)
 SPAN = re.compile(r"(?<!`)`([^`\n]+)`(?!`)")
 PART = r"[\w'◌-]"  # (of a name)
@@ -299,6 +300,14 @@ def crates_told(trial, text):
             trial.fault(f"{CRATES}: nothing of {crate}")
 
 
+def short_decisions(trial, text):
+    """No entry of the decisions is too long."""
+    for entry in re.findall(r"^- (.*)", text, re.M):
+        trial.tries += 1
+        if len(entry.split()) > MOST_WORDS:
+            trial.fault(f"{DECISIONS}: more than {MOST_WORDS} words: {entry[:60]}")
+
+
 def names(trial, files):
     """Each name, link, clause and edit of the documents is there."""
     known = Names()
@@ -313,4 +322,5 @@ def names(trial, files):
     told = read(f"{ROOT}/{CRATES}").decode()
     bare_names(trial, known, told)
     crates_told(trial, told)
+    short_decisions(trial, read(f"{ROOT}/{DECISIONS}").decode())
     statements(trial, read(f"{ROOT}/{PROVED}").decode())
