@@ -1,11 +1,11 @@
 -- Calm steps in a row.
 use borrow.Author.Tests.{not-true}
-use Rattle.std.proofs.Common.{◌≡◌, ◌∙◌, ◌&&◌, ◌∷◌, ℕ, Bool, true, false, not, Option, Some, None, inr, refl, sym, ap}
-use Rattle.bus_signals.specs.{declared.{access.Access.Access, bus_record.BusRecord.BusRecord, kind.Kind.{Kind, TheVariants.{Boot, Cpu, Idle, Irq, Rom}}, region.Region.Region, signals.Signals.Signals}, Bounds.executable_region, ExecFlag.last_pc, Kind.is_cpu, Map.metadata_region, SeenRecord.SeenRecord, TraceFlag.Flag}
+use Rattle.std.proofs.Common.{◌≡◌, ◌∙◌, ◌&&◌, ◌∷◌, ℕ, Bool, true, false, not, Some, None, refl, sym, ap}
+use Rattle.bus_signals.specs.{declared.{bus_record.BusRecord.BusRecord, kind.Kind.{Kind, TheVariants.{Boot, Cpu, Idle, Irq, Rom}}, region.Region.Region, signals.Signals.Signals}, Bounds.executable_region, ExecFlag.last_pc, Kind.is_cpu, Map.metadata_region, SeenRecord.SeenRecord, TraceFlag.Flag}
 use Rattle.part_definitions.specs.{CpuRegister.Registers, Dma.dma_access, FirstRule.breaks_i1, Memory.ShownFlags}
 use Rattle.device_trace.specs.{Logs.{Logs, flags_shown, logged_bounds, with_record}, Peripherals.Peripherals, Progress.last_registers, Signals.{signals_at, signals_of, value_read}, Start.Start, Step.{dma_value_read, record_of}}
 use Rattle.trace_facts.proofs.BoundsStay.{logged_bounds-stay}
-use Rattle.device_core.specs.{Bus.{TurnStandsFor, answer_in, logs_after_step, record_performed}, Calm.{IsCalm, IsCalmRegion, ReadsCalmly, is_calm_access, is_calm_turn}, FlagsKept.{IsQuietStep, LeavesFlags, has_flag}, Quiet.{IsQuietFrom, all_quiet}, declared.turn.Turn.Turn}
+use Rattle.device_core.specs.{Bus.{TurnStandsFor, answer_in, logs_after_step, record_performed}, Calm.{IsCalm, IsCalmRegion, ReadsCalmly, is_calm_turn}, FlagsKept.{IsQuietStep, LeavesFlags, has_flag}, Quiet.{GoesOver, Question}, declared.turn.Turn.Turn}
 use Rattle.device_core.proofs.{CalmStep.{calm-peripherals, calm-quiet, calm-unbroken, calm-writes}, FlagsShown.flags-kept, Steps.record_of-tried}
 
 four-parts : (first second third last : Bool)
@@ -68,14 +68,6 @@ quiet-where-watched flag code start logs now region calm is_set entry is =
     calm-quiet bounds (last_pc logs.records) now entry (rw same at region.above)
     (rw same at region.ran) (rw same at calm) is
 
--- a calm access is one
-quiet-access :
-    (quiet : Access → Bool) (code : Region) (access : Option Access)
-    → is_calm_access code access ≡ true → all_quiet quiet access ≡ true
-    → (made : Access) × (access ≡ Some made) × (quiet made ≡ true)
-quiet-access quiet code None calm quietly = absurd cc
-quiet-access quiet code (Some made) calm quietly = (made, refl, quietly)
-
 module _ {G : Type 0} (flag : Flag G) (code : Region) (start : Start) (logs : Logs) (value : ℕ)
     (region : IsCalmRegion flag code start logs) (reads : ReadsCalmly flag code start logs value)
     (legal : breaks_i1 (signals_of start logs false) ≡ false)
@@ -116,21 +108,12 @@ module _ {G : Type 0} (flag : Flag G) (code : Region) (start : Start) (logs : Lo
     calm-flags same =
         flags-kept flag start calm_seen logs.records same region.shown calm-leaves
 
-    -- the step is quiet where its access is
-    pub calm-quietly :
-        (quiet : Access → Bool)
-        → start.second_flag ≡ flag.value
-        → all_quiet quiet (signals_of start logs false).cpu ≡ true
-        → IsQuietFrom quiet start logs
-    unfolding with_record
-    calm-quietly quiet same quietly =
-        let access =
-        quiet-access quiet code (signals_of start logs false).cpu reads.calm.plain quietly in
-        record {
-          made = inr (rw calm-entry reads.calm.by_processor, rw calm-entry access);
-          alone = rw calm-entry reads.calm.alone;
-          same_flags = rw calm-entry (calm-flags same);
-        }
+    -- the step is gone over where its access is quiet
+    pub calm-over :
+        (quiet : Question)
+        → quiet (signals_of start logs false).cpu None ≡ true
+        → GoesOver quiet (record_of start logs false)
+    calm-over quiet quietly = rw (calm-entry, reads.calm.alone) quietly
 
     calm-bounds : logged_bounds start (with_record start logs calm_entry) ≡ logged_bounds start logs
     calm-bounds =

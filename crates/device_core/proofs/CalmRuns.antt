@@ -1,13 +1,13 @@
 -- A processor that runs, after a calm step.
-use Rattle.std.proofs.Common.{◌≡◌, ◌∙◌, ◌+◌, ℕ, Bool, true, false, Some, None, inl, refl, sym, subst}
-use Rattle.bus_signals.specs.{declared.{access.Access.{Access, TheVariants.Fetch}, kind.Kind.TheVariants.Cpu, region.Region.Region}, TraceFlag.Flag}
-use Rattle.part_definitions.specs.{CpuRegister.Registers, CpuState.{CpuState, Boundary, Executing, Entering, cpu_after, is_at_boundary}, FirstRule.breaks_i1, NextAccess.is_illegal}
+use Rattle.std.proofs.Common.{◌≡◌, ◌∙◌, ◌+◌, ℕ, true, false, Some, None, inl, inr, refl, sym, subst}
+use Rattle.bus_signals.specs.{declared.{access.Access.TheVariants.Fetch, kind.Kind.TheVariants.Cpu, region.Region.Region}, Address.even, TraceFlag.Flag}
+use Rattle.part_definitions.specs.{CpuRegister.{Registers, pc_of}, CpuState.{CpuState, Boundary, Executing, Entering, cpu_after, is_at_boundary}, FirstRule.breaks_i1, NextAccess.is_illegal}
 use Rattle.hmac_core.specs.Hash.{Hash}
 use Rattle.msp_exec.specs.Course.{CpuStandsFor}
 use Rattle.swatt_rom.specs.{RomCall.NoCall, Rom.RomStandsFor}
-use Rattle.device_trace.specs.{Level.level_after, Logs.{Logs, step_progress}, Play.Play, Progress.{Progress, Held, InCall, Runs, fetches_opcode}, Signals.{proposed_access, signals_at, signals_of, step_kind, value_read}, Start.Start, Step.record_of, Trace.logs_after}
-use Rattle.device_core.specs.{Bus.{BusStandsFor, answer_in, logs_after_step}, Calm.{IsCalmRegion, ReadsCalmly}, Machine.{EndsAt, StandsAfter, WritesBy, cpu_of}, Quiet.{IsQuietFrom, all_quiet}, Silence.with_idle, declared.{machine.Machine.Machine, stage.Stage.TheVariants.Running}}
-use Rattle.device_core.proofs.{Calls.ended, CalmRegion.{calm-after, calm-answer, calm-quietly}, Decisions.{decision-none, other-decision}, Idle.{idle-logs, idle-more}, Levels.level-step, NextProgress.progress-performed, Turns.next-runs}
+use Rattle.device_trace.specs.{Level.level_after, Logs.{Logs, step_progress}, Play.Play, Progress.{Progress, Held, InCall, Runs, fetches_opcode, last_registers}, Signals.{proposed_access, signals_at, signals_of, step_kind, value_read}, Start.Start, Step.record_of, Trace.logs_after}
+use Rattle.device_core.specs.{Bus.{BusStandsFor, answer_in, logs_after_step}, Calm.{IsCalmRegion, ReadsCalmly}, Machine.{EndsAt, IsAtBoundary, StandsAfter, WritesBy, cpu_of}, Quiet.{GoesOver, IsOpen, Question}, Silence.with_idle, declared.{machine.Machine.Machine, stage.Stage.TheVariants.Running}}
+use Rattle.device_core.proofs.{Calls.ended, CalmRegion.{calm-after, calm-answer, calm-over}, Decisions.{decision-none, other-decision}, Idle.{idle-logs, idle-more}, Levels.level-step, NextProgress.progress-performed, Turns.next-runs}
 use Rattle.std.proofs.lemmas.Bool.{and_right}
 
 signals-cpu : (start : Start) (logs : Logs) → (signals_of start logs false).kind ≡ step_kind logs
@@ -84,9 +84,27 @@ runs-on hash machine start logs value state is within answer processor call leve
       same_level = level ∙ sym (level-step start logs false _ next);
     }
 
+-- in the middle of an instruction a row may go on
+pub within-open :
+    (quiet : Question) (logs : Logs)
+    → is_at_boundary (cpu_of logs.progress) ≡ false → IsOpen quiet logs
+within-open quiet logs middle regs runs = absurd (cc (middle, runs))
+
+-- and where a fetch is quiet
+pub fetch-open :
+    (quiet : Question) (start : Start) (logs : Logs)
+    → IsAtBoundary logs
+    → proposed_access start logs (step_kind logs)
+    ≡ Some (Fetch (even (pc_of (last_registers logs.progress))))
+    → quiet (signals_of start logs false).cpu None ≡ true
+    → IsOpen quiet logs
+unfolding signals_at
+fetch-open quiet start logs here access quietly regs runs =
+    inr (rw (access, runs) at quietly)
+
 -- after a calm step
 pub goes-calmly :
-    {D G : Type 0} (hash : Hash D) (flag : Flag G) (quiet : Access → Bool) (machine : Machine D G)
+    {D G : Type 0} (hash : Hash D) (flag : Flag G) (quiet : Question) (machine : Machine D G)
     (code : Region) (start : Start) (logs : Logs) (value : ℕ) (state : CpuState)
     → IsCalmRegion flag code start logs → ReadsCalmly flag code start logs value
     → breaks_i1 (signals_of start logs false) ≡ false
@@ -97,18 +115,21 @@ pub goes-calmly :
     → CpuStandsFor machine.processor (cpu_after state value)
     → RomStandsFor hash machine.call NoCall
     → machine.processor.level ≡ level_after logs.progress (Runs (cpu_after state value)) logs.level
-    → all_quiet quiet (signals_of start logs false).cpu ≡ true
+    → quiet (signals_of start logs false).cpu None ≡ true
+    → IsOpen quiet logs
     → StandsAfter hash flag Running machine start logs false
     × IsCalmRegion flag code start (logs_after_step start logs false)
-    × IsQuietFrom quiet start logs
+    × GoesOver quiet (record_of start logs false)
+    × IsOpen quiet logs
 goes-calmly hash flag quiet machine code start logs value state region reads legal within last bus
-    writes processor call level quietly = (
+    writes processor call level quietly onward = (
       ended refl
           (runs-on hash machine start logs value state (calm-kind start logs reads) within
           (calm-answer flag code start logs value region reads legal) processor call level)
           writes (record { same = bus; same_signals = rw last tt }),
       calm-after flag code start logs value region reads legal bus.same_flag,
-      calm-quietly flag code start logs value region reads legal quiet bus.same_flag quietly,
+      calm-over flag code start logs value region reads legal quiet quietly,
+      onward,
     )
 
 -- in the words of a play

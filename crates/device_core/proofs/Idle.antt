@@ -2,8 +2,8 @@
 use Rattle.std.proofs.Common.{◌≡◌, ◌∙◌, ◌-◌, ◌&&◌, ◌||◌, ℕ, Bool, true, false, not, [], ◌∷◌, Option, None, Some, is_none, is_some, option_map, refl, sym, ap, arith, add-one, subst, length, ◌+◌, zero, suc}
 use Rattle.bus_signals.specs.{declared.rule.Rule.Rule, SeenRecord.SeenHistory, TraceFlag.Flag}
 use Rattle.hmac_core.specs.Hash.{Hash}
-use Rattle.device_trace.specs.{Play.Play, Logs.{finishes_call, with_events}, Start.Start, Step.{next_record, next_signals}, Text.{byte_sent_in, last_byte_sent, last_decision, last_denial, last_report}, Trace.{trace, last_record, last_signals, logs_after}, Signals.signals_of}
-use Rattle.device_core.specs.{Machine.{MachineStandsFor, PlaysAt, StandsAfter, stage_of}, declared.{last_step.LastStep.LastStep, machine.Machine.Machine, stage.Stage.Stage}, Bus.{last_seen, KeepsSignals, LastStandsFor, logs_after_step}, Silence.{is_silent, last_rule, with_idle, AreSilent}}
+use Rattle.device_trace.specs.{Play.Play, Logs.{finishes_call, flags_of, with_events, with_record}, Start.Start, Step.{next_record, next_signals}, Text.{byte_sent_in, last_byte_sent, last_decision, last_denial, last_report}, Trace.{trace, last_record, last_signals, logs_after}, Signals.signals_of}
+use Rattle.device_core.specs.{Machine.{MachineStandsFor, PlaysAt, StandsAfter, stage_of}, declared.{last_step.LastStep.LastStep, machine.Machine.Machine, stage.Stage.Stage}, Bus.{last_seen, KeepsSignals, LastStandsFor, logs_after_step}, Silence.{is_silent, last_rule, with_idle, OfEach}}
 use Rattle.device_core.proofs.Histories.{last_report-where, last_seen-last_record, silent-Some, silent-None}
 
 pub idle-logs :
@@ -24,28 +24,29 @@ quiet (Some byte) rule finishes line = absurd cc
 silent-records :
     (start : Start) (play : Play) (records : SeenHistory)
     → option_map (λ now. now.entry) (last_seen records) ≡ last_record (trace start play)
-    → LastStandsFor None records → is_silent start play ≡ true
+    → LastStandsFor start None records → is_silent start play ≡ true
 silent-records start play [] same last = silent-None start play (sym same)
 silent-records start play (now ∷ before) same last =
     silent-Some start play now.entry (sym same)
-    ∙ quiet (byte_sent_in now.entry) now.entry.reset (finishes_call now.entry) last
+    ∙ quiet (byte_sent_in now.entry) now.entry.reset (finishes_call now.entry) last.0
 
 -- a step whose record was not kept
 pub silent-unkept :
     (start : Start) (play : Play) (last : Option LastStep)
-    → LastStandsFor last (logs_after start play).records → is_some last ≡ false
+    → LastStandsFor start last (logs_after start play).records → is_some last ≡ false
     → is_silent start play ≡ true
 silent-unkept start play None stands none =
     silent-records start play (logs_after start play).records (last_seen-last_record start play)
     stands
 silent-unkept start play (Some step) stands none = absurd cc
 
-pub fewer-silent :
-    (start : Start) (steps : ℕ) (play : Play)
-    → AreSilent start steps play → AreSilent start (steps - 1) play
-fewer-silent start zero play all = all
-fewer-silent start (suc steps) play all =
-    let same : suc steps - 1 ≡ steps = omega arith in rw same all.1
+pub flags-unkept :
+    (start : Start) (play : Play) (last : Option LastStep)
+    → LastStandsFor start last (logs_after start ([] ∷ play)).records → is_some last ≡ false
+    → flags_of start (logs_after start ([] ∷ play)) ≡ flags_of start (logs_after start play)
+unfolding logs_after with_record with_events
+flags-unkept start play None stands none = stands.1
+flags-unkept start play (Some step) stands none = absurd cc
 
 -- one such step more
 pub idle-more :
@@ -56,7 +57,7 @@ idle-more steps play = rw add-one refl
 -- before the first step none is kept
 pub first-signals :
     (start : Start) (last : Option LastStep)
-    → LastStandsFor last [] → KeepsSignals last (last_signals start [])
+    → LastStandsFor start last [] → KeepsSignals last (last_signals start [])
 first-signals start None stands = tt
 first-signals start (Some step) stands = absurd cc
 
@@ -93,18 +94,6 @@ goes-idle {hash = hash} {flag = flag} {stage = stage} {machine = machine} {start
       same_signals = kept-idle start before machine.bus.last stands.same_signals;
     })
 
-pub silent-more :
-    (start : Start) (steps : ℕ) (play : Play)
-    → is_silent start (with_idle (steps + 1) play) ≡ true → AreSilent start steps play
-    → AreSilent start (steps + 1) play
-silent-more start steps play last all = rw add-one (rw add-one at last, all)
-
-pub silent-less :
-    (start : Start) (steps : ℕ) (play : Play)
-    → AreSilent start steps play → AreSilent start (steps + 1 - 1) play
-silent-less start steps play all =
-    let same : steps + 1 - 1 ≡ steps = omega arith in rw same all
-
 -- steps behind steps
 pub idle-after :
     (more steps : ℕ) (play : Play)
@@ -114,18 +103,42 @@ idle-after (suc more) steps play =
     let next : steps + suc more ≡ suc (steps + more) = omega arith in
     rw next (ap (λ before. [] ∷ before) (idle-after more steps play))
 
-pub silent-after :
-    (start : Start) (more steps : ℕ) (play : Play)
-    → AreSilent start more (with_idle steps play) → AreSilent start steps play
-    → AreSilent start (steps + more) play
-silent-after start zero steps play later all =
+pub idle-behind :
+    (steps : ℕ) (play : Play) → with_idle steps ([] ∷ play) ≡ with_idle (steps + 1) play
+idle-behind steps play =
+    let next : 1 + steps ≡ steps + 1 = omega arith in
+    idle-after steps 1 play ∙ ap (λ (made : ℕ). with_idle made play) next
+
+-- what holds of each
+pub each-more :
+    (holds : Play → Type 0) (steps : ℕ) (play : Play)
+    → holds (with_idle steps play) → OfEach holds steps play → OfEach holds (steps + 1) play
+each-more holds steps play last all = rw add-one (last, all)
+
+pub each-after :
+    (holds : Play → Type 0) (more steps : ℕ) (play : Play)
+    → OfEach holds more (with_idle steps play) → OfEach holds steps play
+    → OfEach holds (steps + more) play
+each-after holds zero steps play later all =
     let none : steps + 0 ≡ steps = omega arith in rw none all
-silent-after start (suc more) steps play later all =
+each-after holds (suc more) steps play later all =
     let next : steps + suc more ≡ suc (steps + more) = omega arith in
-    let last : is_silent start (with_idle (suc (steps + more)) play) ≡ true =
-    subst (λ (before : Play). is_silent start ([] ∷ before) ≡ true)
-    (idle-after more steps play) later.0 in
-    rw next (last, silent-after start more steps play later.1 all)
+    let last : holds (with_idle (steps + more) play) =
+    subst holds (idle-after more steps play) later.0 in
+    rw next (last, each-after holds more steps play later.1 all)
+
+pub each-fewer :
+    (holds : Play → Type 0) (steps : ℕ) (play : Play)
+    → OfEach holds steps play → OfEach holds (steps - 1) play
+each-fewer holds zero play all = all
+each-fewer holds (suc steps) play all =
+    let same : suc steps - 1 ≡ steps = omega arith in rw same all.1
+
+pub each-less :
+    (holds : Play → Type 0) (steps : ℕ) (play : Play)
+    → OfEach holds steps play → OfEach holds (steps + 1 - 1) play
+each-less holds steps play all =
+    let same : steps + 1 - 1 ≡ steps = omega arith in rw same all
 
 pub length-idle :
     (steps : ℕ) (play : Play) → length (with_idle steps play) ≡ length play + steps

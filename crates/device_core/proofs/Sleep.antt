@@ -1,11 +1,11 @@
 -- Steps of sleep in a row.
 use Rattle.std.proofs.Common.{◌≡◌, ◌∙◌, ◌<◌, ◌≤◌, ◌∷◌, ℕ, zero, suc, Bool, true, false, map, Option, None, Some, is_some, if◌then◌else◌, refl, sym, ap, subst, arith, List, inl}
-use Rattle.bus_signals.specs.{declared.{access.Access.Access, bounds.Bounds.Bounds, bus_record.BusRecord.BusRecord, kind.Kind.TheVariants.{Cpu, Idle, Irq, Rom}, signals.Signals.Signals}, ExecFlag.last_pc, SeenRecord.SeenRecord, TraceFlag.{Flag, IsRecordOf}}
+use Rattle.bus_signals.specs.{declared.{bounds.Bounds.Bounds, bus_record.BusRecord.BusRecord, kind.Kind.TheVariants.{Cpu, Idle, Irq, Rom}, signals.Signals.Signals}, ExecFlag.last_pc, SeenRecord.SeenRecord, TraceFlag.{Flag, IsRecordOf}}
 use Rattle.part_definitions.specs.{CpuRegister.{Registers, allows_interrupts, pc_of}, CpuState.Boundary, Dma.dma_access, FirstRule.first_rule, Memory.{MemoryWrite, ShownFlags, byte_at}, Metadata.bounds_in, Interrupt.first_vector}
 use Rattle.device_trace.specs.{Blank.blank_seen, Logs.{Logs, aux_of, flags_of, flags_shown, logged_bounds, vector_of, with_record}, Peripherals.requests, Play.Play, Trace.{last_signals, logs_after}, Progress.{Progress, Runs, boundary_kind, last_registers}, Signals.{signals_at, signals_of, step_kind}, Start.Start, Step.{record_from, record_of}}
 use Rattle.hmac_core.specs.Hash.{Hash}
-use Rattle.device_core.specs.{Bus.{BusStandsFor, KeepsSignals, LastStandsFor, logs_after_step}, FlagsKept.LeavesFlags, Machine.{DecisionStandsFor, MachineStandsFor, PlaysAt, ProgressStandsFor, stage_of}, Silence.{AreSilent, with_idle}, declared.{last_step.LastStep.LastStep, machine.Machine.Machine, stage.Stage.TheVariants.Running, bus.Bus.Bus}, Monitors.MonitorsStandFor, Quiet.{AreQuiet, IsQuietFrom}, Sleep.{SleepsAt, Rests, Sleeps, idle_signals, logs_idle, with_idle_steps}}
-use Rattle.device_core.proofs.{FlagsShown.flags-kept, Idle.{idle-logs, silent-unkept}, QuietSteps.quiet-step, Steps.record_of-tried, Turns.boundary-step}
+use Rattle.device_core.specs.{Bus.{BusStandsFor, KeepsSignals, LastStandsFor, logs_after_step}, FlagsKept.LeavesFlags, Machine.{DecisionStandsFor, MachineStandsFor, PlaysAt, ProgressStandsFor, stage_of}, Silence.with_idle, declared.{last_step.LastStep.LastStep, machine.Machine.Machine, stage.Stage.TheVariants.Running, bus.Bus.Bus}, Monitors.MonitorsStandFor, Quiet.{AreOpen, AreQuiet, Question}, Sleep.{IsOfSleep, SleepsAt, Rests, Sleeps, idle_signals, logs_idle, with_idle_steps}}
+use Rattle.device_core.proofs.{FlagsShown.flags-kept, Idle.idle-logs, QuietSteps.quiet-step, Steps.record_of-tried, Turns.boundary-step}
 
 -- what it leaves in the logs
 abbrev idle_record : Registers → BusRecord
@@ -78,7 +78,7 @@ pub record SleepsOn {G : Type 0} (flag : Flag G) (bus : Bus G) (start : Start) (
   pub same_peripherals : logs.peripherals ≡ with_idle_steps steps first.peripherals
   pub same_monitors : MonitorsStandFor flag bus.monitors logs.records
   pub shown : aux_of start logs ≡ flag.value (map blank_seen logs.records)
-  pub same_last : LastStandsFor None logs.records
+  pub same_last : LastStandsFor start None logs.records
   pub same_decision : (decision : ℕ)
       → DecisionStandsFor decision first.decision
       → DecisionStandsFor decision logs.decision
@@ -122,7 +122,7 @@ module _ {G : Type 0} (flag : Flag G) (bus : Bus G) (start : Start) (first : Log
           same_peripherals = refl;
           same_monitors = stands.same_monitors;
           shown = rests.shown;
-          same_last = subst (λ last. LastStandsFor last first.records) kept stands.same_last;
+          same_last = subst (λ last. LastStandsFor start last first.records) kept stands.same_last;
           same_decision = λ decision same. same;
           same_level = refl;
         }
@@ -192,7 +192,7 @@ module _ {G : Type 0} (flag : Flag G) (bus : Bus G) (start : Start) (first : Log
           };
           shown =
               ap (λ (flags : ShownFlags). flags.aux) shown ∙ on.shown ∙ sym leaves.same_second;
-          same_last = refl;
+          same_last = (refl, shown);
           same_decision = λ decision same. tt;
           same_level = on.same_level;
         })
@@ -207,28 +207,23 @@ module _ {G : Type 0} (flag : Flag G) (bus : Bus G) (start : Start) (first : Log
         (alike steps (omega arith))
 
     pub asleep-step :
-        (quiet : Access → Bool) (steps : ℕ)
-        → AsksAlike steps first → IsQuietFrom quiet start (logs_idle start steps first)
-    asleep-step quiet steps alike =
+        (steps : ℕ) → AsksAlike steps first → IsOfSleep start (logs_idle start steps first)
+    asleep-step steps alike =
         let regs = last_registers first.progress in
         let logs = logs_idle start steps first in
         let on = sleeps-on steps alike in
-        let next = sleeps-more steps logs on (alike steps (omega arith)) in
+        let still = still-idle steps logs on (alike steps (omega arith)) in
         let same =
-        record-asleep start logs regs (still-idle steps logs on (alike steps (omega arith)))
+        record-asleep start logs regs still
         (here.repeats.unbroken logs.records on.same_monitors) in
         record {
-          made = inl (
-            ap (λ (entry : BusRecord). entry.kind) same,
-            ap (λ (entry : BusRecord). entry.cpu)
-                same,
-          );
+          idle = idle-kind regs logs still;
+          no_access = ap (λ (entry : BusRecord). entry.cpu) same;
           alone = ap (λ (entry : BusRecord). entry.dma) same;
-          same_flags = next.same_flags ∙ sym on.same_flags;
         }
 
     pub asleep :
-        (steps : ℕ) → AsksAlike steps first → Sleeps first (logs_idle start steps first)
+        (steps : ℕ) → AsksAlike steps first → Sleeps start first (logs_idle start steps first)
     asleep steps alike =
         let on = sleeps-on steps alike in
         record {
@@ -258,7 +253,7 @@ pub plays-asleep :
     → PlaysAt hash flag Running machine start play
     → bus.last ≡ None
     → BusStandsFor flag bus start (logs_idle start steps (logs_after start play))
-    → Sleeps (logs_after start play) (logs_idle start steps (logs_after start play))
+    → Sleeps start (logs_after start play) (logs_idle start steps (logs_after start play))
     → PlaysAt hash flag Running (record machine { bus = bus }) start (with_idle steps play)
 plays-asleep {D = D} {G = G} {hash = hash} {flag = flag} machine bus start play steps stands none
     bears sleeps =
@@ -284,34 +279,30 @@ plays-asleep {D = D} {G = G} {hash = hash} {flag = flag} machine bus start play 
       same_signals = no-signals bus.last (last_signals start (with_idle steps play)) none;
     }
 
-pub silent-asleep :
-    (start : Start) (play : Play) (steps : ℕ)
-    → ((some : ℕ) → some ≤ steps
-    → Sleeps (logs_after start play) (logs_idle start some (logs_after start play)))
-    → AreSilent start steps play
-silent-asleep start play zero sleeps = tt
-silent-asleep start play (suc steps) sleeps = (
-  silent-unkept start (with_idle (suc steps) play) None
-      (subst (λ (logs : Logs). LastStandsFor None logs.records)
-      (sym (idle-logs-all start (suc steps) play))
-      (sleeps (suc steps) (omega arith)).same_last)
-      refl,
-  silent-asleep start play steps (λ some few. sleeps some (omega arith)),
-)
-
 -- all of them are quiet
 pub all-asleep :
-    {quiet : Access → Bool} (start : Start) (play : Play) (steps : ℕ)
+    (quiet : Question) (start : Start) (play : Play) (steps : ℕ)
+    → quiet None None ≡ true
     → ((some : ℕ) → some < steps
-    → IsQuietFrom quiet start (logs_idle start some (logs_after start play)))
-    → AreSilent start steps play
-    → AreQuiet quiet start steps play
-all-asleep start play zero is silent = tt
-all-asleep {quiet = quiet} start play (suc steps) is silent = (
-  quiet-step start (with_idle steps play)
-      (subst (λ (logs : Logs). IsQuietFrom quiet start logs)
-      (sym (idle-logs-all start steps play))
-      (is steps (omega arith)))
-      silent.0,
-  all-asleep start play steps (λ some few. is some (omega (arith, few))) silent.1,
-)
+    → IsOfSleep start (logs_idle start some (logs_after start play)))
+    → ((some : ℕ) → some ≤ steps
+    → Sleeps start (logs_after start play) (logs_idle start some (logs_after start play)))
+    → AreQuiet quiet start steps play × AreOpen quiet start steps play
+all-asleep quiet start play zero quietly is sleeps = (tt, tt)
+all-asleep quiet start play (suc steps) quietly is sleeps =
+    let before = all-asleep quiet start play steps quietly (λ some few. is some (omega arith))
+    (λ some few. sleeps some (omega arith)) in
+    let here : IsOfSleep start (logs_after start (with_idle steps play)) =
+    subst (λ (logs : Logs). IsOfSleep start logs) (sym (idle-logs-all start steps play))
+    (is steps (omega arith)) in
+    let last : LastStandsFor start None (logs_after start (with_idle (suc steps) play)).records =
+    subst (λ (logs : Logs). LastStandsFor start None logs.records)
+    (sym (idle-logs-all start (suc steps) play))
+    (sleeps (suc steps) (omega arith)).same_last in (
+      (
+        quiet-step start (with_idle steps play) None
+            (rw (here.no_access, here.alone) quietly) last refl,
+        before.0,
+      ),
+      (λ regs runs. inl here.idle, before.1),
+    )

@@ -3,7 +3,7 @@ use Rattle.std.specs.Prelude.{Bool, false, ◌≡◌, ◌&&◌, ℕ, [], ◌∷�
 use Rattle.bus_signals.specs.{declared.{access.Access.Access, bus_record.BusRecord.BusRecord, rule.Rule.Rule, signals.Signals.Signals}, TraceFlag.Flag, SeenRecord.{SeenHistory, SeenRecord}}
 use Rattle.part_definitions.specs.{Dma.dma_access, CpuRegister.Registers}
 use Rattle.mem_map.specs.Memory.{MemoryStandsFor}
-use Rattle.device_trace.specs.{Logs.{Logs, flags_of, vector_of, step_progress, vector_taken, with_record}, Progress.{next_pc_of, last_registers, tells_irq, fetches_opcode}, Signals.{signals_of, step_kind, proposed_access, value_read}, Start.Start, Step.{record_of, record_from, dma_value_read}}
+use Rattle.device_trace.specs.{Logs.{Logs, flags_of, flags_shown, vector_of, step_progress, vector_taken, with_record}, Progress.{next_pc_of, last_registers, tells_irq, fetches_opcode}, Signals.{signals_of, step_kind, proposed_access, value_read}, Start.Start, Step.{record_of, record_from, dma_value_read}}
 use Rattle.device_core.specs.{Monitors.MonitorsStandFor, Peripherals.PeripheralsStandFor, declared.{bus.Bus.Bus, last_step.LastStep.LastStep, turn.Turn.Turn}, Refusal.where_refused, Silence.has_line}
 
 -- the newest record, with the bounds before it
@@ -15,11 +15,13 @@ last_seen (now ∷ before) = Some now
 abbrev pub seen_in : LastStep → SeenRecord
 seen_in step = record { entry = step.entry; bounds = step.bounds }
 
--- the last step, where it was kept; one that was not has no line
-abbrev pub LastStandsFor : Option LastStep → SeenHistory → Type 0
-LastStandsFor (Some step) records = last_seen records ≡ Some (seen_in step)
-LastStandsFor None [] = Unit {0}
-LastStandsFor None (now ∷ before) = has_line now.entry ≡ false
+-- the last step, where it was kept; one that was not has no line, and leaves the flags as they are
+abbrev pub LastStandsFor : Start → Option LastStep → SeenHistory → Type 0
+LastStandsFor start (Some step) records = last_seen records ≡ Some (seen_in step)
+LastStandsFor start None [] = Unit {0}
+LastStandsFor start None (now ∷ before) =
+    (has_line now.entry ≡ false)
+    × (flags_shown start (now ∷ before) ≡ flags_shown start before)
 
 pub record BusStandsFor {G : Type 0} (flag : Flag G) (bus : Bus G) (start : Start) (logs : Logs)
     : Type 0 where
@@ -27,7 +29,7 @@ pub record BusStandsFor {G : Type 0} (flag : Flag G) (bus : Bus G) (start : Star
   pub same_peripherals : PeripheralsStandFor bus.peripherals logs.peripherals
   pub same_monitors : MonitorsStandFor flag bus.monitors logs.records
   pub same_flag : start.second_flag ≡ flag.value
-  pub same_last : LastStandsFor bus.last logs.records
+  pub same_last : LastStandsFor start bus.last logs.records
 
 -- where the last step was kept, and was refused, this is what it was about to do
 abbrev pub KeepsSignals : Option LastStep → Option Signals → Type 0

@@ -2,8 +2,8 @@
 use Rattle.std.specs.Prelude.{◌≡◌, ◌&&◌, ◌||◌, ℕ, Bool, true, false, not, Option, Some, None, map, nat_le, nat_lt}
 use Rattle.bus_signals.specs.{declared.{access.Access.{Access, TheVariants.{Fetch, Read, Write}}, kind.Kind.TheVariants.Cpu, region.Region.Region, signals.Signals.Signals}, Address.Address, Bounds.executable_region, ExecFlag.{last_pc, ran_inside}, Kind.is_cpu, Map.{is_within, lies_in, metadata_region, ram_region, rom_region}, TraceFlag.Flag}
 use Rattle.part_definitions.specs.Dma.{dma_access}
-use Rattle.device_trace.specs.{Blank.blank_seen, Logs.{Logs, aux_of, logged_bounds}, Signals.{signals_of, value_read}, Start.Start}
-use Rattle.device_core.specs.{Bus.logs_after_step, FlagsKept.{KeepsFlags, has_flag}, Machine.{MachineStandsFor, StandsAfter}, Quiet.IsQuietFrom, declared.{machine.Machine.Machine, stage.Stage.TheVariants.Running, turn.Turn.Turn}}
+use Rattle.device_trace.specs.{Blank.blank_seen, Logs.{Logs, aux_of, logged_bounds}, Signals.{signals_of, value_read}, Start.Start, Step.record_of}
+use Rattle.device_core.specs.{Bus.logs_after_step, FlagsKept.{KeepsFlags, has_flag}, Machine.{MachineStandsFor, StandsAfter}, Quiet.{GoesOver, IsOpen, Question}, declared.{machine.Machine.Machine, stage.Stage.TheVariants.Running, turn.Turn.Turn}}
 use Rattle.hmac_core.specs.Hash.{Hash}
 
 -- in RAM above the metadata
@@ -55,7 +55,7 @@ pub record ReadsCalmly {G : Type 0} (flag : Flag G) (code : Region) (start : Sta
 -- the next step was made from logs of which this holds, it was calm and its access quiet
 abbrev pub GoesCalmly :
     {D G : Type 0} → Hash D → Flag G
-    → (Access → Bool) → Machine D G → (Logs → Type 0) → Region → Machine D G → Type 0
+    → Question → Machine D G → (Logs → Type 0) → Region → Machine D G → Type 0
 GoesCalmly hash flag quiet old when code new =
     (start : Start) (logs : Logs)
     → MachineStandsFor hash flag old start logs
@@ -63,4 +63,5 @@ GoesCalmly hash flag quiet old when code new =
     → IsCalmRegion flag code start logs
     → StandsAfter hash flag Running new start logs false
     × IsCalmRegion flag code start (logs_after_step start logs false)
-    × IsQuietFrom quiet start logs
+    × GoesOver quiet (record_of start logs false)
+    × IsOpen quiet logs

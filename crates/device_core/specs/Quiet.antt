@@ -1,58 +1,66 @@
--- Steps of sleep and calm ones over quiet accesses, without events.
-use Rattle.std.specs.Prelude.{◌≡◌, ◌+◌, ◌-◌, ◌≤◌, ◌⊎◌, ℕ, zero, suc, Bool, true, false, [], ◌∷◌, Option, Some, None}
-use Rattle.bus_signals.specs.{declared.{access.Access.Access, bus_record.BusRecord.BusRecord, kind.Kind.TheVariants.{Cpu, Idle}}, TraceFlag.Flag}
+-- Steps without events over quiet accesses.
+use Rattle.std.specs.Prelude.{◌≡◌, ◌-◌, ◌⊎◌, ℕ, Bool, true, [], ◌∷◌, Option, Some, None}
+use Rattle.bus_signals.specs.{declared.{access.Access.{Access, TheVariants.Fetch}, bus_record.BusRecord.BusRecord, kind.Kind.TheVariants.Idle}, Address.even, TraceFlag.Flag}
+use Rattle.part_definitions.specs.{CpuRegister.{Registers, pc_of}, CpuState.Boundary}
 use Rattle.hmac_core.specs.Hash.{Hash}
-use Rattle.device_trace.specs.{Logs.{Logs, flags_of}, Play.Play, Start.Start, Step.{next_record, record_of}, Trace.logs_after}
-use Rattle.device_core.specs.{Bus.logs_after_step, Device.{LiveStandsFor, steps_made}, Machine.PlaysAt, Silence.{is_silent, with_idle}, declared.{live.Live.Live, machine.Machine.Machine, stage.Stage.TheVariants.Running as RunningStage}}
+use Rattle.device_trace.specs.{Logs.{Logs, flags_of}, Play.Play, Progress.Runs, Signals.step_kind, Start.Start, Step.{next_record, record_of}, Trace.logs_after}
+use Rattle.device_core.specs.{Machine.{MachineStandsFor, PlaysAt}, Silence.{OfEach, is_silent}, declared.{last_step.LastStep.LastStep, machine.Machine.Machine, stage.Stage.Stage}}
 
--- there is no access, or a quiet one
-abbrev pub all_quiet : (Access → Bool) → Option Access → Bool
-all_quiet quiet None = true
-all_quiet quiet (Some access) = quiet access
+-- whether a row goes over a step, by the accesses of processor or ROM and of the DMA
+abbrev pub Question : Type 0
+Question = Option Access → Option Access → Bool
 
--- of sleep there is none; the processor's is quiet
-abbrev pub IsOfProcessor : (Access → Bool) → BusRecord → Type 0
-IsOfProcessor quiet entry =
-    ((entry.kind ≡ Idle) × (entry.cpu ≡ None))
-    ⊎ ((entry.kind ≡ Cpu) × ((access : Access) × (entry.cpu ≡ Some access) × (quiet access ≡ true)))
+-- it goes over the step of this record
+abbrev pub GoesOver : Question → BusRecord → Type 0
+GoesOver quiet entry = quiet entry.cpu entry.dma ≡ true
 
--- the step from these logs, without events, is such a one of which the DMA has no part, and the
--- flags stay as they are
-pub record IsQuietFrom (quiet : Access → Bool) (start : Start) (logs : Logs) : Type 0 where
-  pub made : IsOfProcessor quiet (record_of start logs false)
-  pub alone : (record_of start logs false).dma ≡ None
-  pub same_flags : flags_of start (logs_after_step start logs false) ≡ flags_of start logs
+-- it may go on here: at a boundary the processor sleeps, or a fetch there is quiet
+abbrev pub IsOpen : Question → Logs → Type 0
+IsOpen quiet logs =
+    (regs : Registers)
+    → logs.progress ≡ Runs (Boundary regs)
+    → (step_kind logs ≡ Idle) ⊎ (quiet (Some (Fetch (even (pc_of regs)))) None ≡ true)
 
--- so the step after a play, which has no line
-pub record IsQuiet (quiet : Access → Bool) (start : Start) (play : Play) : Type 0 where
-  pub made : IsOfProcessor quiet (next_record start (logs_after start play) [])
-  pub alone : (next_record start (logs_after start play) []).dma ≡ None
+-- the step after a play, without events: it is gone over, has no line and leaves the flags as they
+-- are
+pub record IsQuiet (quiet : Question) (start : Start) (play : Play) : Type 0 where
+  pub made : GoesOver quiet (next_record start (logs_after start play) [])
   pub silent : is_silent start ([] ∷ play) ≡ true
   pub same_flags : flags_of start (logs_after start ([] ∷ play))
       ≡ flags_of start (logs_after start play)
 
 -- so are the first so many
-abbrev pub AreQuiet : (Access → Bool) → Start → ℕ → Play → Type 0
-AreQuiet quiet start zero play = Unit {0}
-AreQuiet quiet start (suc steps) play =
-    IsQuiet quiet start (with_idle steps play) × AreQuiet quiet start steps play
+abbrev pub AreQuiet : Question → Start → ℕ → Play → Type 0
+AreQuiet quiet start steps play = OfEach (IsQuiet quiet start) steps play
 
--- from here so many such steps were made
+-- and before each of them it may go on
+abbrev pub AreOpen : Question → Start → ℕ → Play → Type 0
+AreOpen quiet start steps play =
+    OfEach (λ before. IsOpen quiet (logs_after start before)) steps play
+
+-- so are the next so many of a machine at this stage
 abbrev pub GoesQuietly :
-    {D G : Type 0} → Hash D → Flag G → (Access → Bool) → Machine D G → ℕ → Type 0
-GoesQuietly hash flag quiet old steps =
+    {D G : Type 0} → Hash D → Flag G → Question → Stage → Machine D G → ℕ → Type 0
+GoesQuietly hash flag quiet stage old steps =
     (start : Start) (play : Play)
-    → PlaysAt hash flag RunningStage old start play
-    → AreQuiet quiet start steps play
+    → PlaysAt hash flag stage old start play
+    → AreQuiet quiet start steps play × AreOpen quiet start steps play
 
--- a device that made so many steps made only such ones since, at most these
-pub record HasGoneQuietly {D G : Type 0} (hash : Hash D) (flag : Flag G) (quiet : Access → Bool)
-    (before : Start → Play → Type 0) (count steps : ℕ) (after : Live D G) : Type 0 where
-  pub from : count ≤ steps_made after
-  pub within : steps_made after ≤ count + steps
-  pub stands : (start : Start) (play : Play)
-      → before start play
-      → LiveStandsFor hash flag after start (with_idle (steps_made after - count) play)
-  pub quietly : (start : Start) (play : Play)
-      → before start play
-      → AreQuiet quiet start (steps_made after - count) play
+-- a step after its events, from logs of which this holds, is gone over where it is not kept
+abbrev pub KeepsUnquiet :
+    {D G : Type 0} → Hash D → Flag G
+    → Question → Machine D G → (Logs → Type 0) → Bool → Machine D G → Type 0
+KeepsUnquiet hash flag quiet old when script_reset new =
+    (start : Start) (logs : Logs)
+    → MachineStandsFor hash flag old start logs
+    → when logs
+    → new.bus.last ≡ None
+    → GoesOver quiet (record_of start logs script_reset)
+
+-- a row of so many steps after a play: all but the last are quiet, and so is the last where it is
+-- not kept; between them it may go on
+pub record IsRow (quiet : Question) (last : Option LastStep) (start : Start) (steps : ℕ)
+    (play : Play) : Type 0 where
+  pub quietly : AreQuiet quiet start (steps - 1) play
+  pub between : AreOpen quiet start (steps - 1) ([] ∷ play)
+  pub unkept : last ≡ None → AreQuiet quiet start steps play

@@ -3,7 +3,7 @@ use Rattle.std.specs.Prelude.{◌≡◌, ℕ, zero, suc, false, map, Some, None}
 use Rattle.bus_signals.specs.{declared.{bus_record.BusRecord.BusRecord, kind.Kind.TheVariants.Idle, signals.Signals.Signals, bounds.Bounds.Bounds}, Address.Address, ExecFlag.last_pc, SeenRecord.SeenHistory, TraceFlag.{Flag, IsRecordOf}}
 use Rattle.part_definitions.specs.{CpuRegister.pc_of, Dma.dma_access, FirstRule.first_rule}
 use Rattle.device_peripherals.specs.Ticks.{with_ticks}
-use Rattle.device_trace.specs.{Blank.blank_seen, Logs.{Logs, aux_of, logged_bounds}, Peripherals.Peripherals, Progress.last_registers, Signals.step_kind, Start.Start}
+use Rattle.device_trace.specs.{Blank.blank_seen, Logs.{Logs, aux_of, logged_bounds}, Peripherals.Peripherals, Progress.last_registers, Signals.step_kind, Start.Start, Step.record_of}
 use Rattle.device_core.specs.{Bus.{LastStandsFor, logs_after_step}, FlagsKept.LeavesFlags, Machine.{DecisionStandsFor, IsAtBoundary}, Monitors.MonitorsStandFor, declared.{bus.Bus.Bus, monitors.Monitors.Monitors}}
 
 -- what a step of sleep at this `pc` is about to do: nothing
@@ -55,10 +55,16 @@ pub record Rests {G : Type 0} (flag : Flag G) (bus : Bus G) (now : Signals) (sta
   pub unasked : dma_access logs.peripherals.dma ≡ None
   pub shown : aux_of start logs ≡ flag.value (map blank_seen logs.records)
 
+-- the step from these logs, without events, is one of sleep
+pub record IsOfSleep (start : Start) (logs : Logs) : Type 0 where
+  pub idle : step_kind logs ≡ Idle
+  pub no_access : (record_of start logs false).cpu ≡ None
+  pub alone : (record_of start logs false).dma ≡ None
+
 -- after steps of sleep the device is where it was, and the last of them has no line
-pub record Sleeps (before after : Logs) : Type 0 where
+pub record Sleeps (start : Start) (before after : Logs) : Type 0 where
   pub same_progress : after.progress ≡ before.progress
-  pub same_last : LastStandsFor None after.records
+  pub same_last : LastStandsFor start None after.records
   pub same_decision : (decision : ℕ)
       → DecisionStandsFor decision before.decision
       → DecisionStandsFor decision after.decision

@@ -1,9 +1,9 @@
-ghost use Rattle.std.specs.Prelude.{◌≡◌, Bool, ◌<◌, ◌≤◌, ◌∷◌, [], ℕ, true, false, List, Option, IfOk, IfSome, IsSome, None, Some, is_none, map, if◌then◌else◌};
+ghost use Rattle.std.specs.Prelude.{◌≡◌, ◌<◌, ◌≤◌, ◌∷◌, [], ℕ, true, false, List, Option, IfOk, IfSome, IsSome, None, Some, is_none, map, if◌then◌else◌};
 ghost use Rattle.bus_signals.specs.{declared.event.Event.Event, Bounds.executable_region, TraceFlag.IsRecordOf, SeenRecord.SeenHistory, ExecFlag.{exec, last_pc}};
 ghost use Rattle.part_definitions.specs.{Dma.dma_access, FirstRule.{breaks_i1, first_rule}, Memory.{PowerOn, ShownFlags, MemoryWrite}, Part.Takes, CpuRegister.Registers};
 ghost use Rattle.mem_map.specs.{Memory.MemoryStandsFor, Image.power_on_of};
 ghost use Rattle.device_trace.specs.{Start.Start, Blank.blank_seen, Logs.{Logs, aux_of, power_on_logs, goes_on_in_call, logged_bounds, memory_after, with_events, with_record}, Signals.{signals_of, word_fetched, value_read}, Step.{is_reset, asks_reset, record_from}};
-ghost use Rattle.device_core.specs.{Bus.{TurnStandsFor, logs_after_step}, Silence.has_line, Quiet.IsQuietFrom, Sleep.{SleepsAt, idle_signals, logs_idle}};
+ghost use Rattle.device_core.specs.{Bus.{TurnStandsFor, logs_after_step}, Silence.has_line, Sleep.{IsOfSleep, SleepsAt, idle_signals, logs_idle}};
 
 use crate::access::{value_read, word_fetched};
 use crate::calm::{ABOVE_ROM, is_above_rom, is_calm};
@@ -166,33 +166,18 @@ impl<G: TraceFlag> Bus<G> {
             → BusStandsFor G.flag self.old start logs
             → SleepsAt pc logs
             → steps ≤ result
-            → Sleeps logs (logs_idle start steps logs) }
-        ensures quietly { (quiet : Access → Bool) (start : Start) (logs : Logs) (steps : ℕ)
+            → Sleeps start logs (logs_idle start steps logs) }
+        ensures of_sleep { (start : Start) (logs : Logs) (steps : ℕ)
             → BusStandsFor G.flag self.old start logs
             → SleepsAt pc logs
             → steps < result
-            → IsQuietFrom quiet start (logs_idle start steps logs) }
+            → IsOfSleep start (logs_idle start steps logs) }
     {
         if self.can_skip_sleep(&idle_signals(pc)) {
             self.peripherals.tick_idle(most)
         } else {
             0
         }
-    }
-
-    /// Keeps the last step no longer, where it has no line. Whether none is kept.
-    pub fn forget_last(&mut self) -> bool
-        ensures none { result ≡ true → self.new.last ≡ None }
-        ensures stays { result ≡ false → self.new ≡ self.old }
-        ensures stands { (start : Start) (logs : Logs)
-            → BusStandsFor G.flag self.old start logs
-            → BusStandsFor G.flag self.new start logs }
-    {
-        if self.last.is_some_and(|step| has_line(&step.entry)) {
-            return false;
-        }
-        self.last = None;
-        true
     }
 
     // Whether steps that are about to do this leave the bus as it is, but for the timer: the DMA

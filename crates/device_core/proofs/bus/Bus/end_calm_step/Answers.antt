@@ -41,7 +41,9 @@ returns-clause-stands g c = λ start logs regs code value stands turn region rea
           (sym (turn-pc start logs regs c.args.turn.now turn));
       same_flag = stands.same_flag;
       same_last =
-          rw c.requires
-          (calm-silent code now (last_registers logs.progress) (value_read start logs now.cpu)
-          (dma_value_read start logs now) reads.calm);
+          rw c.requires (
+            calm-silent code now (last_registers logs.progress) (value_read start logs now.cpu)
+                (dma_value_read start logs now) reads.calm,
+            kept,
+          );
     })

@@ -33,5 +33,5 @@ returns-clause-stands g c = λ start logs line keeps stands value same_dma same_
           (c.pass.ensures now logs.records
           (rw c.make-entry.ensures.monitors stands.same_monitors) leaves refl);
       same_flag = stands.same_flag;
-      same_last = rw c.keep_none.ensures line;
+      same_last = rw c.keep_none.ensures (line, rw entry at kept);
     }

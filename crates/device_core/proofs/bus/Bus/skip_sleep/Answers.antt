@@ -31,7 +31,7 @@ returns-then-can_skip_sleep-clause-stands g c = λ start logs stands sleeps.
       same_monitors = on.same_monitors;
       same_flag = stands.same_flag;
       same_last =
-          subst (λ last. LastStandsFor last after.records) (sym c.requires) on.same_last;
+          subst (λ last. LastStandsFor start last after.records) (sym c.requires) on.same_last;
     }
 
 pub returns-then-can_skip_sleep-clause-asleep : goal.returns-then-can_skip_sleep-clause-asleep
@@ -46,19 +46,19 @@ returns-then-can_skip_sleep-clause-asleep g c = λ start logs steps stands sleep
 pub returns-else-can_skip_sleep-clause-asleep : goal.returns-else-can_skip_sleep-clause-asleep
 returns-else-can_skip_sleep-clause-asleep g c = λ start logs steps stands sleeps few.
     let none : steps ≡ 0 = omega arith in
-    subst (λ (some : ℕ). Sleeps logs (logs_idle start some logs)) (sym none)
+    subst (λ (some : ℕ). Sleeps start logs (logs_idle start some logs)) (sym none)
     (record {
       same_progress = refl;
-      same_last = subst (λ last. LastStandsFor last logs.records) c.requires stands.same_last;
+      same_last = subst (λ last. LastStandsFor start last logs.records) c.requires stands.same_last;
       same_decision = λ decision same. same;
       same_level = refl;
     })
 
-pub returns-then-can_skip_sleep-clause-quietly : goal.returns-then-can_skip_sleep-clause-quietly
-returns-then-can_skip_sleep-clause-quietly g c = λ quiet start logs steps stands sleeps few.
+pub returns-then-can_skip_sleep-clause-of_sleep : goal.returns-then-can_skip_sleep-clause-of_sleep
+returns-then-can_skip_sleep-clause-of_sleep g c = λ start logs steps stands sleeps few.
     let rests = rw c.idle_signals.ensures at
     (c.can_skip_sleep.ensures start logs stands c.if-can_skip_sleep.true) in
     asleep-step g.G.TraceFlag.flag c.args.self.now start logs c.args.pc stands c.requires sleeps
-    rests quiet steps
+    rests steps
     (λ some fewer. c.tick_idle.ensures.requests logs.peripherals some stands.same_peripherals
     (omega arith))

@@ -1,3 +1,4 @@
+use Rattle.std.proofs.Common.{refl}
 use Rattle.device_trace.specs.{Logs.with_events, Step.next_record, Trace.logs_after}
 use Rattle.device_core.proofs.machine.Machine.step.Goals as goal
 
@@ -16,3 +17,6 @@ returns-clause-stands g c = λ start play stands.
       same_word = stands.same.same_word;
     })
     stands.same_stage)
+
+pub returns-clause-kept : goal.returns-clause-kept
+returns-clause-kept g c = c.step_after_events.ensures.each (λ cpu dma. refl)

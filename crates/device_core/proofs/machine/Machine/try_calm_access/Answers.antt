@@ -1,8 +1,8 @@
-use Rattle.std.proofs.Common.{◌∙◌, false, sym, ap}
+use Rattle.std.proofs.Common.{◌∙◌, None, false, sym, ap}
 use Rattle.part_definitions.specs.CpuState.{cpu_after}
 use Rattle.device_trace.specs.Progress.{last_registers}
-use Rattle.device_core.specs.{Machine.cpu_of, Quiet.all_quiet}
-use Rattle.device_core.proofs.{CalmRegion.{calm-answer, turn-access}, CalmRuns.{calm-kind, goes-calmly, middle-legal, middle-opcode}, Levels.level-middle, Turns.{middle-within, runs-middle, takes-value}}
+use Rattle.device_core.specs.Machine.{cpu_of}
+use Rattle.device_core.proofs.{CalmRegion.{calm-answer, turn-access}, CalmRuns.{calm-kind, goes-calmly, middle-legal, middle-opcode, within-open}, Levels.level-middle, Turns.{middle-within, runs-middle, takes-value}}
 use Rattle.device_core.proofs.machine.Machine.try_calm_access.Goals as goal
 
 pub returns-in-Some-clause-made : goal.returns-in-Some-clause-made
@@ -34,6 +34,7 @@ returns-in-Some-clause-made g c = λ made start logs stands middle region.
     (c.try_take.ensures.level taken
     ∙ rw (processor.same_boundary ∙ middle) stands.same_level
     ∙ sym (level-middle logs.progress (cpu_after state value) logs.level middle))
-    (ap (all_quiet quiet) (sym (turn-access start logs regs _ turn.same_turn))
+    (ap (λ access. quiet access None) (sym (turn-access start logs regs _ turn.same_turn))
     ∙ sym c.is_quiet.ensures
     ∙ c.if-not-is_quiet.false)
+    (within-open quiet logs middle)

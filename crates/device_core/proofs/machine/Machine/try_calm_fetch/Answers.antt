@@ -4,8 +4,7 @@ use Rattle.part_definitions.specs.{CpuRegister.pc_of, CpuState.{Boundary, cpu_af
 use Rattle.msp_exec.specs.Level.{level_begun}
 use Rattle.device_trace.specs.{Level.level_after, Progress.{Progress, Runs, last_registers}}
 use borrow.Author.Tests.{not-true}
-use Rattle.device_core.specs.Quiet.{all_quiet}
-use Rattle.device_core.proofs.{CalmRegion.turn-access, CalmRuns.{fetched-legal, goes-calmly, opcode-fetched}, Levels.level-begun, Turns.{boundary-access, boundary-step, turn-within}}
+use Rattle.device_core.proofs.{CalmRegion.turn-access, CalmRuns.{fetch-open, fetched-legal, goes-calmly, opcode-fetched}, Levels.level-begun, Turns.{boundary-access, boundary-step, turn-within}}
 use Rattle.device_core.proofs.machine.Machine.try_calm_fetch.Goals as goal
 
 pub returns-then-begin_here-clause-made : goal.returns-then-begin_here-clause-made
@@ -24,6 +23,10 @@ returns-then-begin_here-clause-made g c = λ made start logs stands fetches regi
     boundary-access start logs regs (opcode-fetched logs regs here fetches.fetches) within in
     let legal = fetched-legal start logs value (even (pc_of regs)) access reads.reads illegal in
     let parts = rw within at turn.same_progress in
+    let quietly =
+    ap (λ access. quiet access None) (sym (turn-access start logs regs _ turn.same_turn))
+    ∙ sym c.is_quiet.ensures
+    ∙ c.if-not-is_quiet.false in
     goes-calmly g.D.Digest32.hash g.G.TraceFlag.flag quiet _ c.args.code start logs value
     (Boundary regs) region reads legal within c.end_calm_step.ensures.last
     (c.end_calm_step.ensures.stands start logs regs c.args.code value turn.same_bus turn.same_turn
@@ -36,6 +39,5 @@ returns-then-begin_here-clause-made g c = λ made start logs stands fetches regi
     ∙ level-begun regs value logs.level
     ∙ ap (λ (before : Progress). level_after before (Runs (cpu_after (Boundary regs) value))
     logs.level) (sym here))
-    (ap (all_quiet quiet) (sym (turn-access start logs regs _ turn.same_turn))
-    ∙ sym c.is_quiet.ensures
-    ∙ c.if-not-is_quiet.false)
+    quietly
+    (fetch-open quiet start logs here access quietly)
