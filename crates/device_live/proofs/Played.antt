@@ -7,9 +7,9 @@ use Rattle.outside_edge.specs.Sink.{Takes, TakesPrefix}
 use Rattle.outside_edge.proofs.SinkLemmas.{prefix_after, prefix_of_more, takes_both}
 use Rattle.device_trace.specs.{Start.Start, Text.lines_of_step, Trace.play_of}
 use Rattle.play_script.specs.{Playback.events_left, declared.playback.Playback.Playback}
-use Rattle.device_core.specs.{Device.{LiveStandsFor, steps_made}, declared.live.Live.Live}
+use Rattle.device_core.specs.{Device.{LiveStandsFor, steps_made}, Quiet.Question, declared.live.Live.Live}
 use Rattle.device_play.specs.{Account.IsPassed, Midway.{HasGoneOn, IsMidway}}
-use Rattle.device_play.proofs.{GoesOn.lines-go_on, IdlePlay.length-play_of, WatchedPlay.at-count}
+use Rattle.device_play.proofs.{GoesOn.lines-go_on, IdlePlay.{gone-passed, length-play_of}, WatchedPlay.at-count}
 use Rattle.device_live.specs.{Life.{Life, events_in, lines_since, play_lived}, Living.PlaysOn}
 use Rattle.device_live.proofs.ToldPlay.{since-between}
 
@@ -22,7 +22,8 @@ passed-lines start events_at made zero passed = refl
 passed-lines start events_at made (suc more) passed =
     let earlier = passed-lines start events_at made more
     (λ step after below. passed step after (omega (arith, below))) in
-    let none = (lines-go_on start (events_at (more + made)) (play_of events_at (more + made))).no_text
+    let play = play_of events_at (more + made) in
+    let none = (lines-go_on start (events_at (more + made)) play).no_text
     (passed (more + made) (omega arith) (omega arith)) in
     rw (earlier, none) refl
 
@@ -74,9 +75,10 @@ module _ {D G S : Type 0} (hash : Hash D) (flag : Flag G) (stands : S → Bytes 
         took = λ earlier holds. rw (none, append-nil earlier) holds;
       }
 
-  module _ {old mid : S} {live next : Live D G} {playback left : Playback} (step : ℕ)
+  module _ {quiet : Question} {old mid : S} {live next : Live D G} {playback left : Playback}
+      (step : ℕ)
       (way : IsOnWay hash flag stands old mid live playback start life steps)
-      (gone : HasGoneOn hash flag false start (events_in life) (steps_made live) next left)
+      (gone : HasGoneOn hash flag false quiet start (events_in life) (steps_made live) next left)
       (more : steps_made live < steps_made next) (made : suc step ≡ steps_made next)
       (within : steps_made next ≤ steps) where
     -- the step that is shown
@@ -91,7 +93,7 @@ module _ {D G S : Type 0} (hash : Hash D) (flag : Flag G) (stands : S → Bytes 
         ≡ lines_since start (events_in life) life.steps (steps_made live - life.steps) ++ line
     lines-so_far =
         shown-lines start (events_in life) life.steps (steps_made live) step way.from
-        (omega (arith, more, made)) (λ later after below. gone.passed later after
+        (omega (arith, more, made)) (λ later after below. gone-passed gone later after
         (omega (arith, made, below)))
 
     -- its line was put

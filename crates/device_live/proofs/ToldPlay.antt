@@ -35,7 +35,8 @@ since-cut start events_at made first zero =
     let none : 0 + first ≡ first = omega arith in
     rw none (sym (append-nil (lines_since start events_at made first)))
 since-cut start events_at made first (suc second) =
-    let line : ℕ → Bytes = λ place. lines_of_step start (events_at place) (play_of events_at place) in
+    let line : ℕ → Bytes =
+    λ place. lines_of_step start (events_at place) (play_of events_at place) in
     let same : (second + first) + made ≡ second + (first + made) = omega arith in
     let next : suc second + first ≡ suc (second + first) = omega arith in
     rw next

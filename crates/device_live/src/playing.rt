@@ -5,7 +5,7 @@ ghost use Rattle.device_core.specs.Device.{LiveStandsFor};
 ghost use Rattle.device_live.specs.{Life.{Life, play_lived}, Living.{KeepsToCome, PlaysOn}};
 
 use bus_signals::TraceFlag;
-use device_core::Live;
+use device_core::{AllQuiet, Live};
 use device_play::{LineWatcher, play_to_shown, print_last_step};
 use hmac_core::Digest32;
 use outside_edge::{Failed, Sink};
@@ -29,7 +29,7 @@ pub fn play_and_print<D: Digest32, G: TraceFlag, W: Sink>(
     let mut live = live;
     let mut playback = to_come.playback();
     while live.steps() < steps {
-        live = play_to_shown::<LineWatcher, D, G>(live, &mut playback, steps);
+        live = play_to_shown::<LineWatcher, AllQuiet, D, G>(live, &mut playback, &AllQuiet, steps);
         print_last_step(live.steps() - 1, &live, sink)?;
     }
     Ok(live)

@@ -7,9 +7,9 @@ use Rattle.outside_edge.specs.Sink.{Takes, TakesPrefix}
 use Rattle.outside_edge.proofs.SinkLemmas.{prefix_after, prefix_of_more, takes_both}
 use Rattle.device_trace.specs.{Play.Play, Start.Start, Trace.play_of}
 use Rattle.play_script.specs.declared.playback.Playback.{Playback}
-use Rattle.device_core.specs.{Device.{LiveStandsFor, steps_made}, declared.live.Live.Live}
+use Rattle.device_core.specs.{Device.{LiveStandsFor, steps_made}, Quiet.Question, declared.live.Live.Live}
 use Rattle.device_play.specs.{Account.{Account, GoesOn, IsPassed, whole_text}, Cuts.TakesOneOf, Midway.{HasGoneOn, IsMidway}, Watching.{HasSeen, IsShown, IsWatched}, declared.put_fault.PutFault.{PutFault, TheVariants.{Write, Memory}}}
-use Rattle.device_play.proofs.{IdlePlay.length-play_of, PlayLaws.{keeps_key_hidden, obeys_laws_with}}
+use Rattle.device_play.proofs.{IdlePlay.{gone-passed, length-play_of}, PlayLaws.{keeps_key_hidden, obeys_laws_with}}
 
 -- what a watcher says goes on from step to step
 abbrev pub AlwaysGoesOn : {T : Type 0} → Account T → Bool → Start → Type 0
@@ -117,18 +117,19 @@ pub record IsToSee {D G S T : Type 0} (hash : Hash D) (flag : Flag G)
 -- so it is where the device has gone on from the steps that were seen
 pub gone-to-see :
     {D G S T : Type 0} {hash : Hash D} {flag : Flag G} {stands : S → Bytes → Type 0}
-    {account : Account T} {every_step : Bool} {start : Start} {events_at : ℕ → List Event}
-    {old new : S} {before live : Live D G} {playback left : Playback} {tally : T} {step : ℕ}
+    {account : Account T} {every_step : Bool} {quiet : Question} {start : Start}
+    {events_at : ℕ → List Event} {old new : S} {before live : Live D G}
+    {playback left : Playback} {tally : T} {step : ℕ}
     → AlwaysGoesOn account every_step start
     → steps_made live ≡ suc step → steps_made before ≤ step
     → IsUnderWay hash flag stands account start events_at old new before playback tally
-    → HasGoneOn hash flag every_step start events_at (steps_made before) live left
+    → HasGoneOn hash flag every_step quiet start events_at (steps_made before) live left
     → IsToSee hash flag stands account start events_at old new live tally step
 gone-to-see {stands} {account} {every_step} {start} {events_at} {old} {new} {before} {live} {tally}
     {step} goes_on made within is gone =
     let up_to = up-to-passed stands account every_step start events_at old new tally
     (step - steps_made before) (steps_made before) step goes_on (omega arith)
-    (λ later from below. gone.passed later from (omega (arith, made))) is.up_to in
+    (λ later from below. gone-passed gone later from (omega (arith, made))) is.up_to in
     record {
       made = made;
       shown = record {

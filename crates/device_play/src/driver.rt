@@ -3,21 +3,22 @@ ghost use Rattle.bus_signals.specs.declared.event.Event.{Event};
 ghost use Rattle.device_trace.specs.{Start.Start, Trace.play_of};
 ghost use Rattle.play_script.specs.Script.{events_of};
 ghost use Rattle.device_core.specs.Device.{HasStepped, HeldStandsFor, steps_made};
-ghost use Rattle.device_play.specs.{Cuts.CountsWriteFaults, Midway.{IsMidway, HasGoneOn, HasGoneQuietlyOn}, Watching.{IsPoweredOn, IsWatched}};
+ghost use Rattle.device_play.specs.{Cuts.CountsWriteFaults, Midway.{IsMidway, HasGoneOn}, Watching.{IsPoweredOn, IsWatched}};
 
 use crate::put_fault::PutFault;
 use crate::watcher::Watcher;
 use bus_signals::TraceFlag;
-use device_core::{Device, Held, Live, Quiet};
+use device_core::{AllQuiet, Device, Held, Live, Quiet};
 use hmac_core::Digest32;
 use outside_edge::Sink;
 use play_script::{Playback, Script};
 
-/// Makes steps up to the next one that is shown to a watcher: that of the next event, or one that
-/// has a line, or any, where every step is shown. At most so many are made then.
-pub fn play_to_shown<O: Watcher, D: Digest32, G: TraceFlag>(
+/// Makes steps up to the next one that is shown to a watcher: that of the next event, or one behind
+/// which a row ends, or any, where every step is shown. At most so many are made then.
+pub fn play_to_shown<O: Watcher, Q: Quiet, D: Digest32, G: TraceFlag>(
     live: Live<D, G>,
     playback: &mut Playback<'_>,
+    quiet: &Q,
     steps: u64,
 ) -> Live<D, G>
     requires more { steps_made live < steps }
@@ -27,37 +28,16 @@ pub fn play_to_shown<O: Watcher, D: Digest32, G: TraceFlag>(
     ensures kept { O.every_step ≡ true → HasStepped result }
     ensures plays { (start : Start) (events_at : ℕ → List Event)
         → IsMidway D.hash G.flag start events_at live playback.old
-        → HasGoneOn D.hash G.flag O.every_step start events_at (steps_made live) result
-        playback.new }
+        → HasGoneOn D.hash G.flag O.every_step (Q.quiet quiet.now) start events_at
+        (steps_made live) result playback.new }
 {
     let step = live.steps();
     let next = playback.next_step();
     if O::is_shown_every_step() || next <= step {
         live.step(playback.pass(step))
     } else {
-        live.run_to_line(next.min(steps) - step)
+        live.make_row(quiet, next.min(steps) - step)
     }
-}
-
-/// Makes steps of sleep, or calm ones over quiet accesses, behind a first one that was made, up to
-/// the next event: so many that a device made this many in all, at most.
-pub fn make_quiet_steps<Q: Quiet, D: Digest32, G: TraceFlag>(
-    live: Live<D, G>,
-    playback: &Playback<'_>,
-    quiet: &Q,
-    steps: u64,
-) -> Live<D, G>
-    requires ahead { steps_made live ≤ steps }
-    requires few { steps ≤ 2 ^ 63 }
-    ensures within { (steps_made live ≤ steps_made result) × (steps_made result ≤ steps) }
-    ensures goes { (start : Start) (events_at : ℕ → List Event)
-        → IsMidway D.hash G.flag start events_at live playback.now
-        → HasGoneQuietlyOn D.hash G.flag (Q.quiet quiet.now) start events_at (steps_made live)
-        result playback.now }
-{
-    let step = live.steps();
-    let next = playback.next_step();
-    live.make_quiet_steps(quiet, next.min(steps).saturating_sub(step))
 }
 
 /// Plays a script's first steps on a device at power-on before a watcher. It gives the device after
@@ -81,7 +61,7 @@ pub fn play_before<O: Watcher, D: Digest32, G: TraceFlag, W: Sink>(
     let mut live = Live::Held(device);
     let mut playback = script.playback();
     while live.steps() < steps {
-        live = play_to_shown::<O, D, G>(live, &mut playback, steps);
+        live = play_to_shown::<O, AllQuiet, D, G>(live, &mut playback, &AllQuiet, steps);
         watcher.see(&mut tally, live.steps() - 1, &live, sink)?;
     }
     watcher.end(&tally, &live, sink)?;

@@ -18,7 +18,7 @@ mod watcher;
 mod wave_sample;
 mod wave_watcher;
 
-pub use driver::{make_quiet_steps, play_before, play_to_shown};
+pub use driver::{play_before, play_to_shown};
 pub use dump_watcher::DumpWatcher;
 pub use law::reports_tell_of_their_moments;
 pub use line_watcher::{LineWatcher, print_end_of, print_last_step};

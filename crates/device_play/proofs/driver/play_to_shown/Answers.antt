@@ -1,7 +1,9 @@
-use Rattle.std.proofs.Common.{◌≡◌, ◌≤◌, ◌<◌, ◌∙◌, ◌-◌, ◌∷◌, [], ℕ, suc, true, refl, sym, subst, arith, rules}
-use Rattle.device_trace.specs.Trace.{play_of}
-use Rattle.device_core.specs.{Device.{LiveStandsFor, steps_made}, Silence.is_silent}
-use Rattle.device_play.proofs.IdlePlay.{idle-play, silent-at}
+use Rattle.std.proofs.Common.{◌≡◌, ◌≤◌, ◌<◌, ◌+◌, ◌∙◌, ◌-◌, ◌∷◌, [], ℕ, suc, false, refl, sym, subst, arith, rules}
+use Rattle.device_trace.specs.{Play.Play, Trace.{logs_after, play_of}}
+use Rattle.device_core.specs.{Device.{LiveStandsFor, steps_made}, Quiet.{AreOpen, AreQuiet, IsOpen, IsQuiet}}
+use Rattle.device_core.proofs.QuietSteps.{kept-some}
+use Rattle.device_play.specs.Midway.{IsQuietIn}
+use Rattle.device_play.proofs.IdlePlay.{each-in-play, idle-play}
 use Rattle.device_play.proofs.driver.play_to_shown.Goals as goal
 
 pub returns-then-next-step-clause-plays : goal.returns-then-next-step-clause-plays
@@ -19,33 +21,54 @@ returns-then-next-step-clause-plays g c = λ start events_at here.
         left = λ later after. c.pass.ensures.left later (omega (arith, made))
             ∙ here.left later (omega (arith, made));
       };
-      passed = λ step after below. absurd (omega (arith, made));
+      alone = λ shown. made;
+      quietly = λ step after below. absurd (omega (arith, made));
+      between = λ step after below. absurd (omega (arith, made));
+      unkept = λ step last none. absurd (kept-some _ c.step.ensures.recorded none);
     }
 
 pub returns-else-next-step-clause-plays : goal.returns-else-next-step-clause-plays
 returns-else-next-step-clause-plays g c = λ start events_at here.
+    let quiet = g.Q.Quiet.quiet c.args.quiet.now in
     let from = steps_made c.args.live in
-    let until = steps_made c.run_to_line.result in
-    let begins = c.run_to_line.ensures.begins (omega arith) in
-    let within = c.run_to_line.ensures.within in
+    let until = steps_made c.make_row.result in
+    let begins = c.make_row.ensures.begins (omega arith) in
+    let within = c.make_row.ensures.within in
+    let row = c.make_row.ensures.row start (play_of events_at from) here.stands in
     let none : (step : ℕ) → from ≤ step → step < until → events_at step ≡ [] =
     λ step after below.
     sym (here.left step after) ∙ c.next_step-next.ensures.before step (omega arith) in
+    let unshown : g.O.Watcher.every_step ≡ false = search rules in
+    let first : events_at from ≡ [] = none from (omega arith) (omega arith) in
+    let next : [] ∷ play_of events_at from ≡ play_of events_at (suc from) = rw first refl in
+    let each : (count step : ℕ)
+    → count + from ≤ until
+    → AreQuiet quiet start count (play_of events_at from)
+    → from ≤ step
+    → step < count + from
+    → IsQuietIn quiet start events_at step =
+    λ count step few all after below. (
+      none step after (omega arith),
+      each-in-play (IsQuiet quiet start) events_at from count
+          (λ one behind before. none one behind (omega arith)) all step after below,
+    ) in
     record {
       midway = record {
-        stands = subst (LiveStandsFor g.D.Digest32.hash g.G.TraceFlag.flag c.run_to_line.result
+        stands = subst (LiveStandsFor g.D.Digest32.hash g.G.TraceFlag.flag c.make_row.result
             start)
             (idle-play events_at from until (until - from) (omega arith) none)
-            (c.run_to_line.ensures.stands start (play_of events_at from) here.stands);
+            (c.make_row.ensures.stands start (play_of events_at from) here.stands);
         left = λ later after. here.left later (omega arith);
       };
-      passed = λ step after below. (
-        search rules,
-        subst (λ play. is_silent start play ≡ true)
-            (idle-play events_at from (suc step) (suc (step - from)) (omega arith)
-            (λ one after earlier. none one after (omega arith)))
-            (silent-at start (play_of events_at from) (until - from - 1) (step - from)
-            (c.run_to_line.ensures.silent start (play_of events_at from) here.stands)
-            (omega arith)),
-      );
+      alone = λ shown. absurd (cc (unshown, shown));
+      quietly = λ step after below.
+          each (until - from - 1) step (omega arith) row.quietly after (omega arith);
+      between = λ step after below.
+          each-in-play (λ (before : Play). IsOpen quiet (logs_after start before)) events_at
+          (suc from) (until - from - 1)
+          (λ one behind before. none one (omega arith) (omega arith))
+          (subst (AreOpen quiet start (until - from - 1)) next row.between) step (omega arith)
+          (omega arith);
+      unkept = λ step last kept.
+          each (until - from) step (omega arith) (row.unkept kept) (omega arith) (omega arith);
     }

@@ -16,12 +16,13 @@ pub returns-in-Err-Kind-clause-answers : goal.returns-in-Err-Kind-clause-answers
 returns-in-Err-Kind-clause-answers g c = λ start life stands.
     let begun = counted g.D.Digest32.hash g.G.TraceFlag.flag c.args.self.now start life
     c.saturating_add-self.result stands in
-    rw c.written.ensures
+    rw c.halt_on_fault.ensures
     (numbered-refused g.D.Digest32.hash g.G.TraceFlag.flag g.W.Sink start life c.args.sink.now
     c.answer_short.new.sink c.print_refusal.new.sink c.answer_short.new.self c.in-Err-Kind.kind
     (answer_to start life (option_map (λ line. line.now) c.args.line))
     c.print_refusal.result
-    (rw (c.in-Err-Kind.is, c.in-Err-Kind.field-0-is) at (c.answer_short.ensures.answers start life begun))
+    (rw (c.in-Err-Kind.is, c.in-Err-Kind.field-0-is) at
+    (c.answer_short.ensures.answers start life begun))
     (rw c.answer_short.ensures.lines c.print_refusal.ensures.puts)
     c.print_refusal.ensures.counts)
 
@@ -39,4 +40,5 @@ returns-in-Err-Write-clause-answers g c = λ start life stands.
     numbered-cut g.D.Digest32.hash g.G.TraceFlag.flag g.W.Sink start life c.args.sink.now
     c.answer_short.new.sink c.answer_short.new.self _
     (answer_to start life (option_map (λ line. line.now) c.args.line))
-    (rw (c.in-Err-Write.is, c.in-Err-Write.field-0-is) at (c.answer_short.ensures.answers start life begun))
+    (rw (c.in-Err-Write.is, c.in-Err-Write.field-0-is) at
+    (c.answer_short.ensures.answers start life begun))
