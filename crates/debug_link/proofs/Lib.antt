@@ -5,3 +5,4 @@ pub mod Faults
 pub mod Parties
 pub mod PacketPieces
 pub mod Talks
+pub mod Interrupts

@@ -6,9 +6,9 @@ use Rattle.std.proofs.lemmas.List.{append-nil, take_more}
 use Rattle.outside_edge.specs.Sink.{Takes, TakesPrefix}
 use Rattle.outside_edge.specs.declared.sink.Sink as sink
 use Rattle.outside_edge.proofs.SinkLemmas.{prefix_after, prefix_of_more, takes_both}
-use Rattle.debug_link.specs.{Conversation.{LONGEST_BODY, Answer, Input, Talk, answer_to, talk_after_message, bytes_of, mark_of, talk_after_byte, with_answer, talk_with_byte, talk_with_inputs}, HeldBody.{HeldBody, short_body}, Link.{Message, Silence, Again, Damage, Whole, link_after, message_of}, Packet.{packet_of, packets_of}, Reading.{KeepsBody, ReaderStandsFor, heard_of}, Serving.{GoesOnTo, Parties, TalkStandsFor}, Writing.{Answers, PacketSink}, declared.{answer_fault.AnswerFault.AnswerFault, connection.Connection.{Connection, TheVariants.{Open, Closed}}, packet_reader.Heard.Heard}}
+use Rattle.debug_link.specs.{Conversation.{LONGEST_BODY, Answer, HaveCome, Input, Talk, answer_to, talk_after_message, bytes_of, count_of, interrupts_of, mark_of, talk_after_byte, with_answer, talk_with_byte, talk_with_inputs}, HeldBody.{HeldBody, short_body}, Link.{Message, Silence, Again, Damage, Whole, link_after, message_of}, Packet.{packet_of, packets_of}, Reading.{KeepsBody, ReaderStandsFor, heard_of}, Serving.{GoesOnTo, Parties, TalkStandsFor}, Writing.{Answers, PacketSink}, declared.{answer_fault.AnswerFault.AnswerFault, connection.Connection.{Connection, TheVariants.{Open, Closed}}, packet_reader.Heard.Heard}}
 use Rattle.debug_link.specs.declared.packet_reader.Heard.TheVariants as heard
-use Rattle.debug_link.proofs.Talks.{answered_more, bytes_both, closed_inputs, inputs_both, inputs_more, open_byte, quiet, quiet_bytes}
+use Rattle.debug_link.proofs.{Interrupts.{came-both, came-one, came-quiet, none-came}, Talks.{answered_more, bytes_both, closed_inputs, inputs_both, inputs_more, open_byte, quiet, quiet_bytes}}
 
 abbrev is_whole : Heard → Bool
 is_whole heard.Silence = false
@@ -150,15 +150,20 @@ module _ {T Session W : Type 0} (stands : T → Session → Type 0) (w : sink.Gh
         prefix = tt;
       })
 
-module _ {T Session Interrupt W : Type 0} (stands : T → Session → Type 0) (w : sink.Ghosts W)
-    (reply : Option Interrupt → Session → List ℕ → Answer Session) where
+module _ {T Session Interrupt W : Type 0} (stands : T → Session → Type 0) (left : T → Option ℕ)
+    (w : sink.Ghosts W) (reply : Option Interrupt → Session → List ℕ → Answer Session) where
+  -- as many interrupts have come from one moment to another
+  abbrev Came : ℕ → Parties T W → Parties T W → Type 0
+  Came count old new = HaveCome count (left old.answerer) (left new.answerer)
+
   -- the answer to a whole packet, where something interrupts it or nothing does
   abbrev AnswersSo : Parties T W → Parties T W → Option (List ℕ) → Result Connection AnswerFault
       → Type 0
   AnswersSo old new body result =
       (session : Session) (bytes : List ℕ) → stands old.answerer session
       → body ≡ short_body bytes
-      → (interrupt : Option Interrupt) × Answers stands w old.packets new.packets new.answerer
+      → (interrupt : Option Interrupt) × Came (count_of interrupt) old new
+      × Answers stands w old.packets new.packets new.answerer
       (answer_to (reply interrupt) session bytes) result
 
   whole_answered : (first : W) (old new : Parties T W) (talk : Talk Session) (message : Message)
@@ -168,14 +173,15 @@ module _ {T Session Interrupt W : Type 0} (stands : T → Session → Type 0) (w
       → heard_of message ≡ heard.Whole → KeepsBody old.reader message
       → body ≡ old.reader.body.bytes
       → AnswersSo old new body result
-      → (interrupt : Option Interrupt)
+      → (interrupt : Option Interrupt) × Came (count_of interrupt) old new
       × GoesOnTo stands w first new (talk_after_message (reply interrupt) talk message) result
   whole_answered first old new talk (Whole bytes) body result so reads is kept held answers =
       let told =
       answers talk.session bytes so.session (held ∙ ap (λ (one : HeldBody). one.bytes) kept) in (
         told.0,
+        told.1,
         answer_put stands w first old new talk (answer_to (reply told.0) talk.session bytes) result
-            so reads told.1,
+            so reads told.2,
       )
   whole_answered first old new talk Silence body result so reads is kept held answers =
       absurd (false≢true (ap is_whole is))
@@ -192,21 +198,21 @@ module _ {T Session Interrupt W : Type 0} (stands : T → Session → Type 0) (w
       → KeepsBody old.reader (message_of talk.link byte)
       → body ≡ old.reader.body.bytes
       → AnswersSo old new body result
-      → (interrupt : Option Interrupt)
+      → (interrupt : Option Interrupt) × Came (count_of interrupt) old new
       × GoesOnTo stands w first new (talk_with_byte (reply interrupt) talk byte) result
   byte_answered first old new talk byte body result still so reads is kept held answers =
       let told =
       whole_answered first old new (talk_after_byte talk byte)
       (message_of talk.link byte) body result so
       reads is kept held answers in
-      (told.0, rw (open_byte (reply told.0) talk byte still) told.1)
+      (told.0, told.1, rw (open_byte (reply told.0) talk byte still) told.2)
 
   -- how they go on by a byte, whatever they stood for while the connection is open
   abbrev pub GoesOnAt : Parties T W → Parties T W → ℕ → Result Connection AnswerFault → Type 0
   GoesOnAt old new byte result =
       (talk : Talk Session) (first : W) → talk.is_over ≡ false
       → TalkStandsFor stands w first old talk
-      → (interrupt : Option Interrupt)
+      → (interrupt : Option Interrupt) × Came (count_of interrupt) old new
       × GoesOnTo stands w first new (talk_with_byte (reply interrupt) talk byte) result
 
   -- and by bytes
@@ -215,17 +221,22 @@ module _ {T Session Interrupt W : Type 0} (stands : T → Session → Type 0) (w
       (talk : Talk Session) (first : W) → talk.is_over ≡ false
       → TalkStandsFor stands w first old talk
       → (inputs : List (Input Interrupt)) × (bytes_of inputs ≡ bytes)
+      × Came (interrupts_of inputs) old new
       × GoesOnTo stands w first new (talk_with_inputs reply talk inputs) result
 
   pub by_none : (now : Parties T W) → GoesOnBy now now [] (Ok Open)
   by_none now talk first still so =
-      ([], refl, record { all = (sym still, so); prefix = tt })
+      ([], refl, none-came (left now.answerer), record { all = (sym still, so); prefix = tt })
 
   by_one : (old new : Parties T W) (byte : ℕ) (result : Result Connection AnswerFault)
       → GoesOnAt old new byte result → GoesOnBy old new (byte ∷ []) result
   by_one old new byte result goes talk first still so =
-      let end = goes talk first still so in
-      (record { byte = byte; interrupt = end.0 } ∷ [], refl, end.1)
+      let end = goes talk first still so in (
+        record { byte = byte; interrupt = end.0 } ∷ [],
+        refl,
+        came-one byte end.0 (left old.answerer) (left new.answerer) end.1,
+        end.2,
+      )
 
   by_more : (old mid new : Parties T W) (one two : List ℕ)
       (result : Result Connection AnswerFault)
@@ -234,10 +245,12 @@ module _ {T Session Interrupt W : Type 0} (stands : T → Session → Type 0) (w
   by_more old mid new one two result before next talk first still so =
       let between = before talk first still so in
       let now : Talk Session = talk_with_inputs reply talk between.0 in
-      let end = next now first (sym between.2.all.0) between.2.all.1 in (
+      let end = next now first (sym between.3.all.0) between.3.all.1 in (
         between.0 ++ end.0,
         bytes_both between.0 end.0 one two between.1 end.1,
-        rw (inputs_both reply talk between.0 end.0) end.2,
+        came-both between.0 end.0 (left old.answerer) (left mid.answerer) (left new.answerer)
+            between.2 end.2,
+        rw (inputs_both reply talk between.0 end.0) end.3,
       )
 
   -- behind the end no byte counts
@@ -248,10 +261,11 @@ module _ {T Session Interrupt W : Type 0} (stands : T → Session → Type 0) (w
       let now : Talk Session = talk_with_inputs reply talk end.0 in (
         end.0 ++ quiet rest,
         bytes_both end.0 (quiet rest) bytes rest end.1 (quiet_bytes Interrupt rest),
+        came-quiet end.0 rest (left old.answerer) (left new.answerer) end.2,
         rw (
           inputs_both reply talk end.0 (quiet rest),
-          closed_inputs reply now (quiet rest) (sym end.2.all.0),
-        ) end.2,
+          closed_inputs reply now (quiet rest) (sym end.3.all.0),
+        ) end.3,
       )
 
   pub by_failed : (old new : Parties T W) (bytes rest : List ℕ) (fault : AnswerFault)
@@ -265,10 +279,11 @@ module _ {T Session Interrupt W : Type 0} (stands : T → Session → Type 0) (w
       let more = inputs_more reply now (quiet rest) in (
         end.0 ++ quiet rest,
         bytes_both end.0 (quiet rest) bytes rest end.1 (quiet_bytes Interrupt rest),
+        came-quiet end.0 rest (left old.answerer) (left new.answerer) end.2,
         record {
           all = tt;
           prefix = rw (inputs_both reply talk end.0 (quiet rest), more.1)
-              (prefix_of_more w.stands first new.packets.sink now.put more.0 end.2.prefix);
+              (prefix_of_more w.stands first new.packets.sink now.put more.0 end.3.prefix);
         },
       )
 

@@ -1,5 +1,5 @@
 -- A conversation: what is put for the bytes that come, whoever answers the packets.
-use Rattle.std.specs.Prelude.{◌≡◌, ℕ, ◌++◌, List, [], ◌∷◌, Option, Bool, false, true, codes, length, map, nat_lt, if◌then◌else◌}
+use Rattle.std.specs.Prelude.{◌≡◌, ◌≤◌, ℕ, ◌+◌, ◌++◌, List, [], ◌∷◌, Option, Some, None, IfSome, Bool, false, true, codes, length, map, nat_lt, option_map, if◌then◌else◌}
 use Rattle.debug_link.specs.{Link.{Link, Between, Message, Silence, Again, Damage, Whole, link_after, message_of}, Packet.{packet_of, packets_of}, declared.connection.Connection.{Connection, TheVariants.{Open, Closed}}}
 
 -- What is answered to a body: where the session stands then, the bodies of the packets that are
@@ -92,6 +92,26 @@ pub record Input (Interrupt : Type 0) : Type 0 where
 abbrev pub bytes_of : {Interrupt : Type 0} → List (Input Interrupt) → List ℕ
 bytes_of inputs = map (λ input. input.byte) inputs
 
+-- none or one
+abbrev pub count_of : {Interrupt : Type 0} → Option Interrupt → ℕ
+count_of None = 0
+count_of (Some interrupt) = 1
+
+-- how many interrupts came
+abbrev pub interrupts_of : {Interrupt : Type 0} → List (Input Interrupt) → ℕ
+interrupts_of [] = 0
+interrupts_of (input ∷ inputs) = count_of input.interrupt + interrupts_of inputs
+
+-- so many interrupts have come, or more: as many fewer come yet, where it is told how many do
+pub record HaveCome (count : ℕ) (before after : Option ℕ) : Type 0 where
+  pub came : ℕ
+  pub enough : count ≤ came
+  pub fewer : before ≡ option_map (λ yet. came + yet) after
+
+-- so many may come, where it is told how many do
+abbrev pub MayCome : Option ℕ → ℕ → Type 0
+MayCome left count = IfSome left (λ most. count ≤ most)
+
 abbrev pub talk_with_inputs : {Session Interrupt : Type 0}
     → (Option Interrupt → Session → List ℕ → Answer Session)
     → Talk Session → List (Input Interrupt) → Talk Session
@@ -105,10 +125,11 @@ abbrev pub conversation : {Session Interrupt : Type 0}
     → Session → List (Input Interrupt) → Talk Session
 conversation reply session inputs = talk_with_inputs reply (first_talk session) inputs
 
--- these bytes came, and this holds of their conversation, whatever interrupted it
+-- these bytes came, and so many interrupts as may, and this holds of their conversation
 abbrev pub OfSomeTalk : {Session Interrupt : Type 0}
     → (Option Interrupt → Session → List ℕ → Answer Session)
-    → Session → List ℕ → (Talk Session → Type 0) → Type 0
-OfSomeTalk {Interrupt = Interrupt} reply session bytes holds =
+    → Session → (ℕ → Type 0) → List ℕ → (Talk Session → Type 0) → Type 0
+OfSomeTalk {Interrupt = Interrupt} reply session may_come bytes holds =
     (inputs : List (Input Interrupt)) × (bytes_of inputs ≡ bytes)
+    × may_come (interrupts_of inputs)
     × holds (conversation reply session inputs)

@@ -3,7 +3,7 @@ use Rattle.std.specs.Prelude.{◌≡◌, ◌≤◌, ◌++◌, ℕ, false, List, 
 use Rattle.outside_edge.specs.{Count.Rose, Sink.{Takes, TakesPrefix}}
 use Rattle.outside_edge.specs.declared.sink.Sink as sink
 use Rattle.source_server.specs.{declared.halt.Halt.{Halt, TheVariants.{Write, Own}}, Responder.{Moment, Promise}}
-use Rattle.debug_link.specs.{Conversation.{Answer, OfSomeTalk, Talk, is_closed}, Reading.ReaderStandsFor, Writing.PacketSink, declared.{answer_fault.AnswerFault.AnswerFault, connection.Connection.Connection, packet_reader.PacketReader.PacketReader, packet_responder.PacketResponder.PacketResponder, talk_end.TalkEnd.{TalkEnd, TheVariants.{Closed, Memory}}}}
+use Rattle.debug_link.specs.{Conversation.{Answer, HaveCome, MayCome, OfSomeTalk, Talk, is_closed}, Reading.ReaderStandsFor, Writing.PacketSink, declared.{answer_fault.AnswerFault.AnswerFault, connection.Connection.Connection, packet_reader.PacketReader.PacketReader, packet_responder.PacketResponder.PacketResponder, talk_end.TalkEnd.{TalkEnd, TheVariants.{Closed, Memory}}}}
 use Rattle.debug_link.specs.declared.answer_fault.AnswerFault.TheVariants as fault
 use Rattle.debug_link.specs.declared.connection.Connection.TheVariants as connection
 
@@ -21,16 +21,26 @@ StopsTalk w old new talk (Own Memory) = TakesPrefix w.stands old new talk.put
 StopsTalk w old new talk Write =
     TakesPrefix w.stands old new talk.put × Rose (w.faults old) (w.faults new)
 
+-- where a session and the sink stood at first, and how many interrupts come yet, if that is told
+pub record TalkStart (Session W : Type 0) : Type 0 where
+  pub session : Session
+  pub sink : W
+  pub left : Option ℕ
+
 -- What a sink has taken, behind bytes that a source gave: their conversation, from where the
--- answerer's session stood.
+-- answerer's session stood, with no more interrupts than come.
 abbrev pub talk_promise : {W Session Interrupt : Type 0} → sink.Ghosts W
-    → (Option Interrupt → Session → List ℕ → Answer Session) → Session → W → Promise W TalkEnd
-talk_promise w reply session first =
+    → (Option Interrupt → Session → List ℕ → Answer Session) → TalkStart Session W
+    → Promise W TalkEnd
+talk_promise w reply start =
     record {
-      answered = λ now bytes. OfSomeTalk reply session bytes (PutsTalk w first now);
-      ended = λ now bytes. OfSomeTalk reply session bytes (PutsTalk w first now);
+      answered = λ now bytes.
+          OfSomeTalk reply start.session (MayCome start.left) bytes (PutsTalk w start.sink now);
+      ended = λ now bytes.
+          OfSomeTalk reply start.session (MayCome start.left) bytes (PutsTalk w start.sink now);
       stopped = λ now before last why.
-          OfSomeTalk reply session (before ++ last) (λ talk. StopsTalk w first now talk why);
+          OfSomeTalk reply start.session (MayCome start.left) (before ++ last)
+          (λ talk. StopsTalk w start.sink now talk why);
     }
 
 -- within a serving, who takes part: the reader of packets, the answerer, and the packets' sink
@@ -62,11 +72,6 @@ came_of (Ok connection.Closed) = Err (Own Closed)
 came_of (Err fault.Write) = Err Write
 came_of (Err fault.Memory) = Err (Own Memory)
 
--- where a session and the sink stood at first
-pub record TalkStart (Session W : Type 0) : Type 0 where
-  pub session : Session
-  pub sink : W
-
 abbrev pub parties_at : {T W : Type 0} → Moment (PacketResponder T) (PacketSink W) → Parties T W
 parties_at now =
     record {
@@ -84,12 +89,13 @@ pub record StandsBehind {T Session W : Type 0} (stands : T → Session → Type 
 
 -- what is promised of the parties
 abbrev pub parties_promise : {T Session Interrupt W : Type 0} → (T → Session → Type 0)
-    → sink.Ghosts W → (Option Interrupt → Session → List ℕ → Answer Session)
+    → (T → Option ℕ) → sink.Ghosts W → (Option Interrupt → Session → List ℕ → Answer Session)
     → TalkStart Session W → Promise (Moment (PacketResponder T) (PacketSink W)) TalkEnd
-parties_promise stands w reply start =
-    let talk = talk_promise w reply start.session start.sink in
+parties_promise stands left w reply start =
+    let talk = talk_promise w reply start in
     record {
-      answered = λ now bytes. OfSomeTalk reply start.session bytes
+      answered = λ now bytes. OfSomeTalk reply start.session
+          (λ count. HaveCome count start.left (left now.responder.answerer)) bytes
           (StandsBehind stands w start.sink (parties_at now));
       ended = λ now bytes. talk.ended now.edge.sink bytes;
       stopped = λ now before last why. talk.stopped now.edge.sink before last why;

@@ -39,7 +39,7 @@ impl<A: Answerer + Drop, W: Sink + Drop> Responder<PacketWriter<W>> for PacketRe
 
     ghost Start = { TalkStart A.Session W };
 
-    ghost promise = { λ start. parties_promise A.stands W.Sink A.reply start };
+    ghost promise = { λ start. parties_promise A.stands A.left W.Sink A.reply start };
 
     ghost since = { λ old new. W.faults old.edge.sink ≤ W.faults new.edge.sink };
 

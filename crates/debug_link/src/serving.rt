@@ -1,7 +1,7 @@
 ghost use Rattle.std.specs.Prelude.{◌≡◌, ◌≤◌, ℕ, List, [], Option, false, length, IfSome, option_map};
 ghost use Rattle.outside_edge.specs.Sink.{CountsFaults, Puts};
 ghost use Rattle.source_server.specs.Serving.{Serves};
-ghost use Rattle.debug_link.specs.{Conversation.{Input, LONGEST_BODY as longest, Talk, answer_to, bytes_of, mark_of, talk_with_byte, talk_with_inputs}, Link.Message, HeldBody.short_body, Reading.heard_of, Serving.{GoesOnTo, TalkStandsFor, talk_promise}, Writing.{Answers, CountsWriteFaults}};
+ghost use Rattle.debug_link.specs.{Conversation.{HaveCome, Input, LONGEST_BODY as longest, Talk, answer_to, bytes_of, count_of, interrupts_of, mark_of, talk_with_byte, talk_with_inputs}, Link.Message, HeldBody.short_body, Reading.heard_of, Serving.{GoesOnTo, TalkStandsFor, talk_promise}, Writing.{Answers, CountsWriteFaults}};
 
 use crate::answer_fault::AnswerFault;
 use crate::answerer::Answerer;
@@ -22,8 +22,9 @@ pub fn serve<R: Source, A: Answerer + Drop, W: Sink + Drop>(
 ) -> Served<TalkEnd>
     ensures serves { (session : A.Session) → A.stands answerer session
         → packets.old.last ≡ []
-        → Serves R.Source (talk_promise W.Sink A.reply session packets.old.sink) source.old
-        source.new packets.new.sink result }
+        → Serves R.Source (talk_promise W.Sink A.reply
+        (record { session = session; sink = packets.old.sink; left = A.left answerer }))
+        source.old source.new packets.new.sink result }
     ensures source_faults { R.faults source.old ≤ R.faults source.new }
     ensures sink_faults { W.faults packets.old.sink ≤ W.faults packets.new.sink }
 {
@@ -42,6 +43,7 @@ pub fn answer_piece<A: Answerer, W: Sink + Drop>(
         → TalkStandsFor A.stands W.Sink first
         (record { reader = reader.old; answerer = answerer.old; packets = packets.old }) talk
         → (inputs : List (Input A.Interrupt)) × (bytes_of inputs ≡ piece.now)
+        × HaveCome (interrupts_of inputs) (A.left answerer.old) (A.left answerer.new)
         × GoesOnTo A.stands W.Sink first
         (record { reader = reader.new; answerer = answerer.new; packets = packets.new })
         (talk_with_inputs A.reply talk inputs) result }
@@ -66,7 +68,9 @@ fn answer_byte<A: Answerer, W: Sink + Drop>(
     ensures goes_on { (talk : Talk A.Session) (first : W) → talk.is_over ≡ false
         → TalkStandsFor A.stands W.Sink first
         (record { reader = reader.old; answerer = answerer.old; packets = packets.old }) talk
-        → (interrupt : Option A.Interrupt) × GoesOnTo A.stands W.Sink first
+        → (interrupt : Option A.Interrupt)
+        × HaveCome (count_of interrupt) (A.left answerer.old) (A.left answerer.new)
+        × GoesOnTo A.stands W.Sink first
         (record { reader = reader.new; answerer = answerer.new; packets = packets.new })
         (talk_with_byte (A.reply interrupt) talk byte) result }
     ensures counts { CountsWriteFaults W.faults packets.old.sink packets.new.sink result }
@@ -104,7 +108,9 @@ fn answer_body<A: Answerer, W: Sink + Drop>(
     requires { IfSome body (λ bytes. length bytes.now ≤ longest) }
     ensures answers { (session : A.Session) (bytes : List ℕ) → A.stands answerer.old session
         → option_map (λ bytes. bytes.now) body.entry ≡ short_body bytes
-        → (interrupt : Option A.Interrupt) × Answers A.stands W.Sink packets.old packets.new
+        → (interrupt : Option A.Interrupt)
+        × HaveCome (count_of interrupt) (A.left answerer.old) (A.left answerer.new)
+        × Answers A.stands W.Sink packets.old packets.new
         answerer.new (answer_to (A.reply interrupt) session bytes) result }
     ensures counts { CountsWriteFaults W.faults packets.old.sink packets.new.sink result }
 {

@@ -13,7 +13,7 @@ use std::test::Fail;
 struct Agreement;
 
 impl Answerer for Agreement {
-    ghost use Rattle.std.specs.Prelude.{[]};
+    ghost use Rattle.std.specs.Prelude.{[], None};
     ghost use Rattle.debug_link.specs.declared.connection.Connection.TheVariants.{Open};
 
     ghost Session = { Unit {0} };
@@ -22,6 +22,8 @@ impl Answerer for Agreement {
     ghost stands = { λ _ _. ⊥ };
 
     ghost Interrupt = { Unit {0} };
+
+    ghost left = { λ _. None };
 
     ghost reply = { λ _ session _. record { session = session; packets = []; connection = Open } };
 

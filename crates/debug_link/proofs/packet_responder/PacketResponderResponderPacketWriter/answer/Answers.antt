@@ -4,7 +4,7 @@ use Rattle.debug_link.proofs.packet_responder.PacketResponderResponderPacketWrit
 pub returns-clause-answers : goal.returns-clause-answers
 returns-clause-answers g c = λ start before so.
     rw c.came_of.ensures
-    (piece_came g.A.Answerer.stands g.W.Sink g.A.Answerer.reply start
+    (piece_came g.A.Answerer.stands g.A.Answerer.left g.W.Sink g.A.Answerer.reply start
     (record { responder = c.args.self.now; edge = c.args.packets.now })
     (record {
       responder = record {
