@@ -1,3 +1,4 @@
+mod Asking
 pub mod Begun
 pub mod FirstStep
 mod Places
@@ -7,6 +8,5 @@ pub mod ShownBytes
 mod SilentSteps
 pub mod StretchSteps
 mod TellsSteps
-pub mod Unasked
 pub mod Views
 mod WalkSteps

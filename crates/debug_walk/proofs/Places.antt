@@ -1,7 +1,7 @@
 -- The step at a place, and where it leads.
 use Rattle.std.proofs.Common.{◌≡◌, ℕ, suc, length, refl}
 use Rattle.bus_signals.specs.declared.bus_record.BusRecord.{BusRecord}
-use Rattle.device_trace.specs.{Logs.{Logs, progress_after, vector_of, with_events, with_record}, Progress.{Held, access_of, kind_of, progress_within}, Signals.signals_at, Step.{access_recorded, next_record, record_of}, Trace.logs_after}
+use Rattle.device_trace.specs.{Level.level_after, Logs.{Logs, progress_after, vector_of, with_events, with_record}, Progress.{Held, access_of, kind_of, progress_within}, Signals.signals_at, Step.{access_recorded, next_record, record_of}, Trace.logs_after}
 use Rattle.debug_session.specs.Place.{Run, logs_at, step_at}
 
 -- the logs after the events of its step
@@ -31,6 +31,13 @@ pub step-cpu : (run : Run) (place : ℕ)
     (progress_within (logs_at run place).progress entry.kind (vector_of (heard_at run place))))
 unfolding step_at next_record record_of signals_at with_events
 step-cpu run place = refl
+
+pub step-level : (run : Run) (place : ℕ)
+    → (logs_at run (suc place)).level
+    ≡ level_after (logs_at run place).progress (logs_at run (suc place)).progress
+    (logs_at run place).level
+unfolding step_at logs_at logs_after with_record with_events
+step-level run place = refl
 
 -- at first the device is held
 pub held-first : (run : Run) → (logs_at run 0).progress ≡ Held

@@ -1,20 +1,20 @@
--- What a quiet step does at its place.
-use Rattle.std.proofs.Common.{◌≡◌, ◌<◌, ◌∙◌, ◌⊎◌, ⊎_elim, ℕ, suc, Bool, true, false, not, List, [], ◌∷◌, Option, None, Some, refl, ap, sym, subst, arith}
+-- What a step that a row goes over does at its place, and where a row may go on.
+use Rattle.std.proofs.Common.{◌≡◌, ◌<◌, ◌∙◌, ⊎_elim, ℕ, suc, Bool, true, false, not, List, [], ◌∷◌, Option, None, Some, refl, ap, sym, subst, arith}
 use Rattle.std.specs.Prelude.{◌==◌, ◌&&◌, ◌||◌, is_some, if◌then◌else◌}
-use Rattle.std.proofs.lemmas.Bool.{false≢true}
+use Rattle.std.proofs.lemmas.Bool.{and_parts, false≢true}
 use Rattle.bus_signals.specs.{Address.even, Map.ROM_ENTRY, declared.{access.Access.{Access, TheVariants.{Fetch, Read, Write}}, bus_record.BusRecord.BusRecord, event.Event.Event, kind.Kind.TheVariants.{Cpu, Idle, Irq, Rom}}}
-use Rattle.part_definitions.specs.{CpuRegister.{Registers, is_asleep, pc_of}, CpuState.{Boundary, Executing, Entering}, MonitorRule.in_rom, Memory.ShownFlags, NextAccess.next_access}
-use Rattle.device_trace.specs.{Logs.{progress_after, vector_of}, Progress.{Progress, Held, Runs, InCall, boundary_kind, kind_of, last_registers, progress_within, stands_at_boundary}, Step.next_record, Trace.logs_after}
+use Rattle.part_definitions.specs.{CpuRegister.{Registers, is_asleep, pc_of}, CpuState.{Boundary, Executing, Entering}, MonitorRule.in_rom, Memory.ShownFlags}
+use Rattle.device_trace.specs.{Level.level_after, Logs.{progress_after, vector_of}, Progress.{Progress, Held, Runs, InCall, boundary_kind, kind_of, last_registers, progress_within, stands_at_boundary}, Signals.step_kind, Step.next_record, Trace.logs_after}
 use Rattle.trace_facts.proofs.{ProperPlay.{IsProperProgress, logs_after-proper}, ProperRegisters.IsProper}
-use Rattle.device_core.specs.{Quiet.{IsOfProcessor, IsQuiet}, Silence.is_silent}
+use Rattle.device_core.specs.{Quiet.{GoesOver, IsOpen, IsQuiet, Question}, Silence.is_silent}
 use Rattle.debug_session.specs.{Request.most_steps, Cause.is_broken_at, Place.{Run, aux_at, differs, exec_at, logs_at, play_to, sight_at, step_at, step_sight}, Sight.StepSight, Stops.{Stops, has_breakpoint}, Watched.{hit_by, hits_by, hits_by_access, is_hit, made_access}, declared.watch.Watch.Watch}
-use Rattle.debug_walk.specs.Passing.{IsSilent, Sleeps, is_passed, is_unasked}
-use Rattle.debug_walk.proofs.{Places.{heard_at, step-cpu, step-kind, step-progress}, Views.some-same, SilentSteps.{next-there, silent-there}}
+use Rattle.debug_walk.specs.Passing.{IsSilent, Sleeps, goes_over, is_passed, is_unasked}
+use Rattle.debug_walk.proofs.{Asking.idle-where, Places.{heard_at, step-kind, step-level, step-progress}, SilentSteps.{next-there, silent-there}}
 
--- the record of a step without events
-record IsQuietAt (quiet : Access → Bool) (run : Run) (place : ℕ) : Type 0 where
-  made : IsOfProcessor quiet (step_at run place)
-  alone : (step_at run place).dma ≡ None
+-- a step without events over which a row goes
+record IsQuietAt (stops : Stops) (asleep : Bool) (run : Run) (place : ℕ) : Type 0 where
+  cpu : is_passed stops asleep (step_at run place).cpu ≡ true
+  dma : is_passed stops asleep (step_at run place).dma ≡ true
   unrefused : (step_at run place).reset ≡ None
   same_exec : exec_at run (suc place) ≡ exec_at run place
   same_aux : aux_at run (suc place) ≡ aux_at run place
@@ -26,7 +26,7 @@ step-alone run place none =
     ap (λ (events : List Event).
     next_record run.start (logs_after run.start (play_to run place)) events) (sym none)
 
-flags-next : (quiet : Access → Bool) (run : Run) (place : ℕ) → run.events_at place ≡ []
+pub flags-next : (quiet : Question) (run : Run) (place : ℕ) → run.events_at place ≡ []
     → IsQuiet quiet run.start (play_to run place)
     → (exec_at run (suc place) ≡ exec_at run place) × (aux_at run (suc place) ≡ aux_at run place)
 unfolding logs_at
@@ -39,7 +39,7 @@ flags-next quiet run place none is =
     )
 
 -- a hit on nothing
-none-first : (one other : Bool) → (one || other) ≡ false → (one ≡ false) × (other ≡ false)
+pub none-first : (one other : Bool) → (one || other) ≡ false → (one ≡ false) × (other ≡ false)
 none-first true other none = absurd (false≢true (sym none))
 none-first false other none = (refl, none)
 
@@ -79,33 +79,28 @@ passed-unasked : (asleep unasked : Bool) → (not asleep && unasked) ≡ true �
 passed-unasked true unasked passed = absurd (false≢true passed)
 passed-unasked false unasked passed = passed
 
-module _ (stops : Stops) (asleep : Bool) (run : Run) (place : ℕ)
-    (is : IsQuietAt (is_passed stops asleep) run place)
-  where
-    -- the access of the processor is hit by no watch
-    cpu-unhit : hits_by (made_access (step_at run place) (step_at run place).cpu) stops.watches
-        ≡ []
-    cpu-unhit = ⊎_elim
-        (λ sleeps. rw (is.unrefused, sleeps.1) refl)
-        (λ goes.
-        let (access, made, passed) = goes.1 in
-        ap (λ (cpu : Option Access). hits_by (made_access (step_at run place) cpu) stops.watches)
-        made
-        ∙ unasked-hit stops (step_at run place) access is.unrefused
-        (passed-unasked asleep (is_unasked stops access) passed))
-        is.made
+passed-unhit : (stops : Stops) (asleep : Bool) (entry : BusRecord) (access : Option Access)
+    → entry.reset ≡ None → is_passed stops asleep access ≡ true
+    → hits_by (made_access entry access) stops.watches ≡ []
+passed-unhit stops asleep entry None unrefused passed = rw unrefused refl
+passed-unhit stops asleep entry (Some access) unrefused passed =
+    unasked-hit stops entry access unrefused
+    (passed-unasked asleep (is_unasked stops access) passed)
 
+module _ (stops : Stops) (asleep : Bool) (run : Run) (place : ℕ)
+    (is : IsQuietAt stops asleep run place)
+  where
     step-unhit : (step_sight run place).hits stops.watches ≡ []
     unfolding step_sight
     step-unhit =
+        let entry : BusRecord = step_at run place in
         rw (
           is.same_exec,
           is.same_aux,
           same-flag (exec_at run place),
           same-flag (aux_at run place),
-          cpu-unhit,
-          is.alone,
-          is.unrefused,
+          passed-unhit stops asleep entry entry.cpu is.unrefused is.cpu,
+          passed-unhit stops asleep entry entry.dma is.unrefused is.dma,
         )
         refl
 
@@ -153,124 +148,146 @@ module _ (run : Run) (place : ℕ) (here : stands_at_boundary (logs_at run place
     at-boundary : (logs_at run place).progress ≡ Runs (Boundary regs)
     at-boundary = boundary-progress (logs_at run place).progress here
 
-    -- an instruction is fetched
-    fetched-at : (step_at run place).kind ≡ Cpu → (step_at run place).reset ≡ None
-        → (step_at run place).cpu ≡ Some (Fetch (pc_of regs))
-    unfolding next_access
-    fetched-at kind unrefused =
+    -- the processor sleeps, whatever is heard
+    asleep-at : (vector : Option ℕ) → kind_of (logs_at run place).progress vector ≡ Idle
+        → ((pc_of regs == ROM_ENTRY) ≡ false) × (is_asleep regs ≡ true)
+    asleep-at vector idle =
+        let is : boundary_kind regs vector ≡ Idle =
+        subst (λ (progress : Progress). kind_of progress vector ≡ Idle) at-boundary idle in
+        idle-kind (pc_of regs == ROM_ENTRY) (in_rom (pc_of regs)) (is_some vector) (is_asleep regs)
+        is
+
+    -- a fetch there is at the PC
+    unasked-at : (stops : Stops) (asleep : Bool)
+        → goes_over stops asleep (Some (Fetch (even (pc_of regs)))) None ≡ true
+        → has_breakpoint stops (pc_of regs) ≡ false
+    unasked-at stops asleep quiet =
+        let fetch : Access = Fetch (even (pc_of regs)) in
+        let passed = and_parts (is_passed stops asleep (Some fetch)) true quiet in
+        let unasked = passed-unasked asleep (is_unasked stops fetch) passed.0 in
         let proper : IsProper regs =
         subst (λ (progress : Progress). IsProperProgress progress) at-boundary
         (proper-at run place) in
-        step-cpu run place
-        ∙ rw (unrefused, kind, at-boundary) refl
-        ∙ ap (λ (at : ℕ). Some (Fetch at)) (proper-even regs proper)
-
-    -- or the processor sleeps
-    asleep-at : (step_at run place).kind ≡ Idle
-        → ((pc_of regs == ROM_ENTRY) ≡ false) × (is_asleep regs ≡ true)
-    asleep-at idle =
-        let vector : Option ℕ = vector_of (heard_at run place) in
-        let kind : kind_of (logs_at run place).progress vector ≡ Idle =
-        sym (step-kind run place) ∙ idle in
-        let is : boundary_kind regs vector ≡ Idle =
-        subst (λ (progress : Progress). kind_of progress vector ≡ Idle) at-boundary kind in
-        idle-kind (pc_of regs == ROM_ENTRY) (in_rom (pc_of regs))
-        (is_some (vector_of (heard_at run place))) (is_asleep regs) is
-
-    unasked-at : (stops : Stops) → is_unasked stops (Fetch (pc_of regs)) ≡ true
-        → has_breakpoint stops (pc_of regs) ≡ false
-    unasked-at stops unasked = not-hit (has_breakpoint stops (pc_of regs)) unasked
+        ap (λ (at : ℕ). has_breakpoint stops at) (sym (proper-even regs proper))
+        ∙ not-hit (has_breakpoint stops (even (pc_of regs))) unasked
 
     unbroken-by : (stops : Stops) (asleep : Bool)
-        → IsQuietAt (is_passed stops asleep) run place
+        → IsOpen (goes_over stops asleep) (logs_at run place)
         → ((not (is_asleep regs) || (pc_of regs == ROM_ENTRY))
         && has_breakpoint stops (pc_of regs)) ≡ false
-    unbroken-by stops asleep is = ⊎_elim
-        (λ sleeps.
-        let parts = asleep-at sleeps.0 in
+    unbroken-by stops asleep opened = ⊎_elim
+        (λ (idle : step_kind (logs_at run place) ≡ Idle).
+        let parts = asleep-at (vector_of (logs_at run place)) idle in
         rw (parts.0, parts.1) refl)
-        (λ goes.
-        let (access, made, passed) = goes.1 in
-        let same : Some access ≡ Some (Fetch (pc_of regs)) =
-        sym made ∙ fetched-at goes.0 is.unrefused in
-        let unasked = passed-unasked asleep (is_unasked stops access) passed in
-        rw (unasked-at stops (rw (some-same same) at unasked))
+        (λ (quiet : goes_over stops asleep (Some (Fetch (even (pc_of regs)))) None ≡ true).
+        rw (unasked-at stops asleep quiet)
         (and-none (not (is_asleep regs) || (pc_of regs == ROM_ENTRY))))
-        is.made
+        (opened regs at-boundary)
       where
         and-none : (one : Bool) → (one && false) ≡ false
         and-none true = refl
         and-none false = refl
-
-    unbroken-at : (stops : Stops) (asleep : Bool)
-        → IsQuietAt (is_passed stops asleep) run place
-        → is_broken_at stops (sight_at run place) ≡ false
-    unfolding sight_at
-    unbroken-at stops asleep is = unbroken-by stops asleep is
-
--- where sleep alone is gone over
-passed-idle : (stops : Stops) (entry : BusRecord)
-    → IsOfProcessor (is_passed stops true) entry → entry.kind ≡ Idle
-passed-idle stops entry made = ⊎_elim (λ sleeps. sleeps.0)
-    (λ goes. let (access, is, passed) = goes.1 in absurd (false≢true passed)) made
-
--- it leads to the same boundary
-idle-next : (progress : Progress) (vector : Option ℕ) (access : Option Access) (value : ℕ)
-    → stands_at_boundary progress ≡ true
-    → stands_at_boundary
-    (progress_after None Idle (progress_within progress Idle vector) access value)
-    ≡ true
-idle-next Held vector access value here = absurd (false≢true here)
-idle-next (Runs (Boundary from)) vector access value here = refl
-idle-next (Runs (Executing from values)) vector access value here = absurd (false≢true here)
-idle-next (Runs (Entering from other values)) vector access value here =
-    absurd (false≢true here)
-idle-next (InCall from words) vector access value here = absurd (false≢true here)
-
-boundary-next : (run : Run) (place : ℕ)
-    → stands_at_boundary (logs_at run place).progress ≡ true
-    → (step_at run place).kind ≡ Idle → (step_at run place).reset ≡ None
-    → stands_at_boundary (logs_at run (suc place)).progress ≡ true
-boundary-next run place here idle unrefused =
-    let entry : BusRecord = step_at run place in
-    let vector : Option ℕ = vector_of (heard_at run place) in
-    let next : stands_at_boundary
-    (progress_after entry.reset entry.kind
-    (progress_within (logs_at run place).progress entry.kind vector) entry.cpu entry.value)
-    ≡ true =
-    rw (unrefused, idle)
-    (idle-next (logs_at run place).progress vector entry.cpu entry.value here) in
-    ap stands_at_boundary (step-progress run place) ∙ next
-
-sleeps-at : (stops : Stops) (run : Run) (place : ℕ) → place < most_steps
-    → IsQuietAt (is_passed stops true) run place → Sleeps run place
-unfolding sight_at step_sight
-sleeps-at stops run place before is =
-    let idle = passed-idle stops (step_at run place) is.made in
-    let here =
-    idle-boundary (logs_at run place).progress (vector_of (heard_at run place))
-    (sym (step-kind run place) ∙ idle) in
-    record {
-      from = here;
-      idle = ap (λ (step : StepSight). step.kind) (next-there run place before) ∙ idle;
-      to = boundary-next run place here idle is.unrefused;
-    }
-
--- what a quiet step does not do
-pub record GoesBy (stops : Stops) (asleep : Bool) (run : Run) (place : ℕ) : Type 0 where
-  pub unbroken : (sight_at run place).boundary ≡ true
-      → is_broken_at stops (sight_at run place) ≡ false
-  pub unhit : (sight_at run place).next.hits stops.watches ≡ []
-  pub silent : IsSilent run place
-  pub sleeps : asleep ≡ true → Sleeps run place
 
 boundary-sight : (run : Run) (place : ℕ) → (sight_at run place).boundary ≡ true
     → stands_at_boundary (logs_at run place).progress ≡ true
 unfolding sight_at
 boundary-sight run place here = here
 
+opened-there : (quiet : Question) (run : Run) (place : ℕ)
+    → IsOpen quiet (logs_after run.start (play_to run place)) → IsOpen quiet (logs_at run place)
+unfolding logs_at
+opened-there quiet run place opened = opened
+
+-- where a row may go on there is no breakpoint
+pub unbroken-at : (stops : Stops) (asleep : Bool) (run : Run) (place : ℕ)
+    → IsOpen (goes_over stops asleep) (logs_after run.start (play_to run place))
+    → (sight_at run place).boundary ≡ true
+    → is_broken_at stops (sight_at run place) ≡ false
+unfolding sight_at
+unbroken-at stops asleep run place opened here =
+    unbroken-by run place (boundary-sight run place here) stops asleep
+    (opened-there (goes_over stops asleep) run place opened)
+
+-- sleep leads to the same boundary
+idle-same : (progress : Progress) (vector : Option ℕ) (access : Option Access) (value : ℕ)
+    → stands_at_boundary progress ≡ true
+    → progress_after None Idle (progress_within progress Idle vector) access value ≡ progress
+idle-same Held vector access value here = absurd (false≢true here)
+idle-same (Runs (Boundary from)) vector access value here = refl
+idle-same (Runs (Executing from values)) vector access value here = absurd (false≢true here)
+idle-same (Runs (Entering from other values)) vector access value here =
+    absurd (false≢true here)
+idle-same (InCall from words) vector access value here = absurd (false≢true here)
+
+same-level : (progress : Progress) (level : ℕ)
+    → stands_at_boundary progress ≡ true → level_after progress progress level ≡ level
+same-level Held level here = absurd (false≢true here)
+same-level (Runs (Boundary from)) level here = refl
+same-level (Runs (Executing from values)) level here = absurd (false≢true here)
+same-level (Runs (Entering from vector values)) level here = absurd (false≢true here)
+same-level (InCall from words) level here = absurd (false≢true here)
+
+module _ (run : Run) (place : ℕ)
+    (here : stands_at_boundary (logs_at run place).progress ≡ true)
+    (idle : (step_at run place).kind ≡ Idle) (unrefused : (step_at run place).reset ≡ None)
+  where
+    progress-next : (logs_at run (suc place)).progress ≡ (logs_at run place).progress
+    progress-next =
+        let entry : BusRecord = step_at run place in
+        let vector : Option ℕ = vector_of (heard_at run place) in
+        let next : progress_after entry.reset entry.kind
+        (progress_within (logs_at run place).progress entry.kind vector) entry.cpu entry.value
+        ≡ (logs_at run place).progress =
+        rw (unrefused, idle)
+        (idle-same (logs_at run place).progress vector entry.cpu entry.value here) in
+        step-progress run place ∙ next
+
+    level-next : (logs_at run (suc place)).level ≡ (logs_at run place).level
+    level-next =
+        step-level run place
+        ∙ ap (λ (after : Progress).
+        level_after (logs_at run place).progress after (logs_at run place).level) progress-next
+        ∙ same-level (logs_at run place).progress (logs_at run place).level here
+
+-- where each instruction counts, it sleeps
+pub record SleepsOn (run : Run) (place : ℕ) : Type 0 where
+  pub sleeps : Sleeps run place
+  pub level : (sight_at run (suc place)).level ≡ (sight_at run place).level
+
+passed-none : (stops : Stops) (access : Option Access)
+    → is_passed stops true access ≡ true → access ≡ None
+passed-none stops None passed = refl
+passed-none stops (Some access) passed = absurd (false≢true passed)
+
+sleeps-at : (stops : Stops) (run : Run) (place : ℕ) → place < most_steps
+    → IsQuietAt stops true run place → SleepsOn run place
+unfolding sight_at step_sight
+sleeps-at stops run place before is =
+    let idle : (step_at run place).kind ≡ Idle =
+    idle-where run place is.unrefused (passed-none stops (step_at run place).cpu is.cpu) in
+    let here : stands_at_boundary (logs_at run place).progress ≡ true =
+    idle-boundary (logs_at run place).progress (vector_of (heard_at run place))
+    (sym (step-kind run place) ∙ idle) in
+    let next : (logs_at run (suc place)).progress ≡ (logs_at run place).progress =
+    progress-next run place here idle is.unrefused in
+    record {
+      sleeps = record {
+        from = here;
+        idle = ap (λ (step : StepSight). step.kind) (next-there run place before) ∙ idle;
+        to = ap stands_at_boundary next ∙ here;
+        same = ap last_registers next;
+      };
+      level = level-next run place here idle is.unrefused;
+    }
+
+-- what a step does over which a row goes
+pub record GoesBy (stops : Stops) (asleep : Bool) (run : Run) (place : ℕ) : Type 0 where
+  pub unhit : (sight_at run place).next.hits stops.watches ≡ []
+  pub silent : IsSilent run place
+  pub sleeps : asleep ≡ true → SleepsOn run place
+
 sleeps-where : (stops : Stops) (asleep : Bool) (run : Run) (place : ℕ) → place < most_steps
-    → IsQuietAt (is_passed stops asleep) run place → asleep ≡ true → Sleeps run place
+    → IsQuietAt stops asleep run place → asleep ≡ true → SleepsOn run place
 sleeps-where stops true run place before is sleeps = sleeps-at stops run place before is
 sleeps-where stops false run place before is sleeps = absurd (false≢true sleeps)
 
@@ -281,27 +298,30 @@ refused-step run place = refl
 
 pub goes-by : (stops : Stops) (asleep : Bool) (run : Run) (place : ℕ) → place < most_steps
     → run.events_at place ≡ []
-    → IsQuiet (is_passed stops asleep) run.start (play_to run place)
+    → IsQuiet (goes_over stops asleep) run.start (play_to run place)
     → GoesBy stops asleep run place
 goes-by stops asleep run place before none is =
-    let silent =
+    let silent : IsSilent run place =
     silent-there run place before
     (subst (λ (events : List Event). is_silent run.start (events ∷ play_to run place) ≡ true)
     (sym none) is.silent) in
     let entry = step-alone run place none in
-    let flags = flags-next (is_passed stops asleep) run place none is in
+    let flags = flags-next (goes_over stops asleep) run place none is in
     let next = next-there run place before in
-    let there : IsQuietAt (is_passed stops asleep) run place =
+    let passed =
+    and_parts (is_passed stops asleep (step_at run place).cpu)
+    (is_passed stops asleep (step_at run place).dma)
+    (subst (GoesOver (goes_over stops asleep)) entry is.made) in
+    let there : IsQuietAt stops asleep run place =
     record {
-      made = subst (IsOfProcessor (is_passed stops asleep)) entry is.made;
-      alone = ap (λ (entry : BusRecord). entry.dma) (sym entry) ∙ is.alone;
+      cpu = passed.0;
+      dma = passed.1;
       unrefused = refused-step run place ∙ sym (ap (λ (step : StepSight). step.refused) next)
           ∙ silent.unrefused;
       same_exec = flags.0;
       same_aux = flags.1;
     } in
     record {
-      unbroken = λ here. unbroken-at run place (boundary-sight run place here) stops asleep there;
       unhit = ap (λ (step : StepSight). step.hits stops.watches) next
           ∙ step-unhit stops asleep run place there;
       silent = silent;

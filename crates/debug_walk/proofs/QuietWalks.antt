@@ -1,19 +1,37 @@
--- A walk that goes over quiet steps.
-use Rattle.std.proofs.Common.{◌≡◌, ◌<◌, ◌≤◌, ◌+◌, ◌-◌, ◌∙◌, ◌⊎◌, ⊎_elim, inl, inr, ℕ, zero, suc, Bool, true, false, List, [], ◌∷◌, ◌++◌, Option, None, Some, is_some, length, refl, ap, sym, subst, arith}
-use Rattle.std.specs.Prelude.{◌&&◌, ◌||◌, nat_le, nat_lt, if◌then◌else◌}
-use Rattle.std.proofs.lemmas.Bool.{false≢true}
+-- A walk that makes a row of steps.
+use Rattle.std.proofs.Common.{◌≡◌, ◌<◌, ◌≤◌, ◌+◌, ◌-◌, ◌∙◌, ◌⊎◌, ⊎_elim, inl, inr, ℕ, zero, suc, Bool, true, false, List, [], ◌∷◌, ◌++◌, Option, None, Some, length, refl, ap, sym, subst, arith}
+use Rattle.std.specs.Prelude.{◌==◌, ◌&&◌, ◌||◌, is_some, nat_le, nat_lt, if◌then◌else◌}
+use Rattle.std.proofs.lemmas.Bool.{cond-true, cond_both, eqb-true}
 use Rattle.std.proofs.lemmas.Bool.Decides.{nat_tests}
 use Rattle.std.proofs.lemmas.List.{length_push}
 use Rattle.bus_signals.specs.TraceFlag.{Flag}
 use Rattle.hmac_core.specs.Hash.{Hash}
-use Rattle.play_script.specs.declared.playback.Playback.{Playback}
 use Rattle.trace_facts.proofs.Choices.{none_there}
-use Rattle.device_core.specs.{Device.steps_made, declared.live.Live.Live}
-use Rattle.device_play.specs.Midway.{HasGoneQuietlyOn}
-use Rattle.debug_session.specs.{Request.most_steps, declared.{command.Way.TheVariants.Ahead, watch.{Hit.Hit, Watch.Watch}}, Cause.{begins_within, behind, boots, hit_on, hits, is_broken_at, is_due}, Place.{Run, sight_at, view_of}, Sight.Sight, Stops.Stops, Watched.first_hit}
+use Rattle.play_script.specs.declared.playback.Playback.{Playback}
+use Rattle.device_core.specs.{Device.{machine_of, steps_made}, Quiet.Question, declared.live.Live.Live}
+use Rattle.device_play.specs.Midway.{HasGoneOn}
+use Rattle.debug_session.specs.{Request.most_steps, declared.{command.Way.TheVariants.Ahead, watch.{Hit.Hit, Watch.Watch}}, Cause.{behind, hit_on, hits, is_broken_at, is_due}, Place.{Run, aux_at, exec_at, sight_at, view_of}, Sight.Sight, Stops.Stops, Watched.first_hit}
 use Rattle.debug_session.proofs.Views.{view-at}
-use Rattle.debug_walk.specs.{Passing.{ArePassed, IsCapped, Sleeps, is_passed}, Stretch.stretch_from, Walk.TellsCause, declared.stretch.Stretch.Stretch}
-use Rattle.debug_walk.proofs.{QuietPlaces.{GoesBy, goes-by}, StretchSteps.{behind-few, behind-some, hits-with, kept_behind}}
+use Rattle.debug_walk.specs.{Passing.{ArePassed, AreSilent, IsCapped, IsPassed, Sleeps, goes_over}, Stretch.{has_cause, stretch_from, stretch_of_last}, Walk.{TellsCause, stretch_behind, stretch_there}, declared.stretch.Stretch.Stretch}
+use Rattle.debug_walk.proofs.{QuietPlaces.{GoesBy, SleepsOn, flags-next, goes-by, none-first, unbroken-at}, StretchSteps.{KeepsBehind, behind-few, hits-with, kept_behind, keeps-none}, TellsSteps.{KeepsTelling, tells-over, tells-past, tells-there}}
+
+-- from a place on, from each place to the next
+module _ (Holds : ℕ → Type 0) (place end : ℕ) (first : Holds place)
+    (next : (at : ℕ) → place ≤ at → suc at < end → Holds at → Holds (suc at))
+  where
+    along-steps : (steps : ℕ) → steps + place < end → Holds (steps + place)
+    along-steps zero few =
+        let same : place ≡ zero + place = omega arith in subst Holds same first
+    along-steps (suc steps) few =
+        let same : suc (steps + place) ≡ suc steps + place = omega arith in
+        subst Holds same
+        (next (steps + place) (omega arith) (omega (arith, few))
+        (along-steps steps (omega (arith, few))))
+
+    along : (at : ℕ) → place ≤ at → at < end → Holds at
+    along at from few =
+        let same : at - place + place ≡ at = omega (arith, from) in
+        subst Holds same (along-steps (at - place) (omega (arith, from, few)))
 
 first-of-none : (made : List Hit) → first_hit made ≡ None → made ≡ []
 first-of-none [] none = refl
@@ -28,29 +46,32 @@ none-of-kept watches false sights none = none
 abbrev begin_at : Run → ℕ → ℕ
 begin_at run place = place - length (behind (view_of run) place)
 
-later-kept : (boundary : Bool) (sights : List Sight) (place : ℕ)
+later-kept : (boundary : Bool) (sights : List Sight)
     → length (if boundary then [] else sights) ≤ length sights
-later-kept true sights place = omega arith
-later-kept false sights place = omega arith
+later-kept true sights = omega arith
+later-kept false sights = omega arith
 
-begin-later : (run : Run) (place : ℕ) → begin_at run place ≤ begin_at run (suc place)
-begin-later run place =
-    let here : Sight = view_of run place in
+kept-few : (run : Run) (place : ℕ) → length (kept_behind run place) ≤ place
+kept-few run place =
     omega (
       arith,
-      later-kept here.boundary (behind (view_of run) place) place,
-      length_push (kept_behind run place) here,
+      later-kept (view_of run place).boundary (behind (view_of run) place),
       behind-few run place,
     )
 
-begins-later : (run : Run) (steps place : ℕ) → begin_at run place ≤ begin_at run (steps + place)
-begins-later run zero place =
-    let same : place ≡ zero + place = omega arith in
-    subst (λ (at : ℕ). begin_at run place ≤ begin_at run at) same (omega arith)
-begins-later run (suc steps) place =
-    let next : suc (steps + place) ≡ suc steps + place = omega arith in
-    subst (λ (at : ℕ). begin_at run place ≤ begin_at run at) next
-    (omega (arith, begins-later run steps place, begin-later run (steps + place)))
+begin-later : (run : Run) (place : ℕ) → begin_at run place ≤ begin_at run (suc place)
+begin-later run place =
+    omega (
+      arith,
+      later-kept (view_of run place).boundary (behind (view_of run) place),
+      length_push (kept_behind run place) (view_of run place),
+      behind-few run place,
+    )
+
+begin-next : (run : Run) (place : ℕ)
+    → place - length (kept_behind run place) ≡ begin_at run (suc place)
+begin-next run place =
+    omega (arith, length_push (kept_behind run place) (view_of run place), kept-few run place)
 
 -- a number of steps that a row does not go past
 unreached : (number begin place : ℕ)
@@ -68,180 +89,315 @@ reached-before : (number begin place : ℕ)
     → number ≤ place → (nat_lt begin number && nat_le number place) ≡ false → number ≤ begin
 reached-before number begin place past none = grind (arith, nat_tests, past, none)
 
+plain-by : (boundary broken due : Bool)
+    → (boundary ≡ true → broken ≡ false) → due ≡ false
+    → (boundary && (broken || due)) ≡ false
+plain-by true broken due unbroken undue = rw (unbroken refl, undue) refl
+plain-by false broken due unbroken undue = refl
+
+-- a row from a place up to an end, and what is kept at that place
 module _ (stops : Stops) (asleep : Bool) (run : Run) (place end : ℕ) (was : Stretch)
-    (tells : TellsCause stops asleep run place was) (unhit : was.first_hit ≡ None)
-    (capped : IsCapped stops.until was.place end) (within : end ≤ most_steps)
-    (goes : (at : ℕ) → place ≤ at → at < end → GoesBy stops asleep run at)
+    (keeps : KeepsTelling stops asleep run place (stretch_there run place was))
+    (some : place < end) (within : end ≤ most_steps) (capped : IsCapped stops.until place end)
+    (one : (has_cause (stretch_there run place was) stops.until place ≡ false) ⊎ (end ≡ place + 1))
+    (goes : (at : ℕ) → place ≤ at → at + 1 < end → GoesBy stops asleep run at)
+    (unbroken : (at : ℕ) → place < at → at < end → (sight_at run at).boundary ≡ true
+    → is_broken_at stops (sight_at run at) ≡ false)
   where
+    abbrev begun : Stretch
+    begun = stretch_there run place was
+
+    -- there was no cause yet
+    abbrev NoCause : Type 0
+    NoCause = has_cause begun stops.until place ≡ false
+
+    no-parts : NoCause
+        → (is_some begun.first_hit ≡ false) × (is_due stops.until begun.place place ≡ false)
+    no-parts none =
+        none-first (is_some begun.first_hit) (is_due stops.until begun.place place) none
+
     view-there : (at : ℕ) → at < end → view_of run at ≡ sight_at run at
     view-there at before = view-at run at (omega (arith, before, within))
 
-    none-from : (steps : ℕ) → steps + place ≤ end
-        → hits stops.watches (behind (view_of run) (steps + place)) ≡ []
-    none-from zero few =
-        let same : place ≡ zero + place = omega arith in
-        subst (λ (at : ℕ). hits stops.watches (behind (view_of run) at) ≡ []) same
-        (first-of-none (hits stops.watches (behind (view_of run) place))
-        (sym tells.first ∙ unhit))
-    none-from (suc steps) few =
-        let at : ℕ = steps + place in
+    -- where more than one step is made, there was none
+    no-cause : (at : ℕ) → place ≤ at → at + 1 < end → NoCause
+    no-cause at from before =
+        ⊎_elim (λ (none : NoCause). none)
+        (λ (alone : end ≡ place + 1). absurd (omega (arith, alone, from, before))) one
+
+    none-next : (at : ℕ) → place ≤ at → suc at < end
+        → hits stops.watches (kept_behind run at) ≡ []
+        → hits stops.watches (behind (view_of run) (suc at)) ≡ []
+    none-next at from before none =
         let here : Sight = view_of run at in
-        let none : here.next.hits stops.watches ≡ [] =
-        ap (λ (sight : Sight). sight.next.hits stops.watches) (view-there at (omega (arith, few)))
-        ∙ (goes at (omega arith) (omega (arith, few))).unhit in
-        let kept =
-        none-of-kept stops.watches here.boundary (behind (view_of run) at)
-        (none-from steps (omega (arith, few))) in
-        let next : suc at ≡ suc steps + place = omega arith in
+        let unhit : here.next.hits stops.watches ≡ [] =
+        ap (λ (sight : Sight). sight.next.hits stops.watches)
+        (view-there at (omega (arith, before)))
+        ∙ (goes at from (omega (arith, before))).unhit in
         let more : hits stops.watches (kept_behind run at) ++ here.next.hits stops.watches ≡ [] =
-        rw (kept, none) refl in
-        subst (λ (at : ℕ). hits stops.watches (behind (view_of run) at) ≡ []) next
-        (hits-with stops.watches (kept_behind run at) here ∙ more)
+        rw (none, unhit) refl in
+        hits-with stops.watches (kept_behind run at) here ∙ more
 
-    none-at : (at : ℕ) → place ≤ at → at ≤ end
-        → hits stops.watches (behind (view_of run) at) ≡ []
-    none-at at from few =
-        let same : at - place + place ≡ at = omega (arith, from) in
-        subst (λ (at : ℕ). hits stops.watches (behind (view_of run) at) ≡ []) same
-        (none-from (at - place) (omega (arith, from, few)))
+    none-kept : NoCause → (at : ℕ) → place ≤ at → at < end
+        → hits stops.watches (kept_behind run at) ≡ []
+    none-kept none = along
+        (λ (at : ℕ). hits stops.watches (kept_behind run at) ≡ []) place end
+        (first-of-none (hits stops.watches (kept_behind run place))
+        (sym keeps.first ∙ none_there begun.first_hit (no-parts none).0))
+        (λ at from before nothing.
+        none-of-kept stops.watches (view_of run (suc at)).boundary
+        (behind (view_of run) (suc at)) (none-next at from before nothing))
 
-    begin-from : (at : ℕ) → place ≤ at → begin_at run place ≤ begin_at run at
-    begin-from at from =
-        let same : at - place + place ≡ at = omega (arith, from) in
-        subst (λ (at : ℕ). begin_at run place ≤ begin_at run at) same
-        (begins-later run (at - place) place)
+    begins-later : (at : ℕ) → place ≤ at → at < end
+        → begin_at run (suc place) ≤ begin_at run (suc at)
+    begins-later = along
+        (λ (at : ℕ). begin_at run (suc place) ≤ begin_at run (suc at)) place end (omega arith)
+        (λ at from before earlier. omega (arith, earlier, begin-later run (suc at)))
 
-    was-before : was.place ≤ place
-    was-before =
-        ⊎_elim (λ (first : was.place ≡ 0). omega (arith, first))
-        (λ (earlier : was.place < place). omega (arith, earlier)) tells.begun
+    -- a number that was reached before the row was reached before each stretch in it
+    reached-at : NoCause → (number : ℕ) → stops.until ≡ Some number
+        → number ≤ place → (at : ℕ) → place ≤ at → at < end → number ≤ begin_at run (suc at)
+    reached-at none number asked reached at from before =
+        let undue : (nat_lt begun.place number && nat_le number place) ≡ false =
+        rw asked at (no-parts none).1 in
+        let earlier : number ≤ begun.place =
+        reached-before number begun.place place reached undue in
+        let due : (nat_lt begun.place number && nat_le number (suc place))
+        ≡ (nat_lt (place - length (kept_behind run place)) number && nat_le number (suc place)) =
+        rw asked at keeps.due in
+        let first : number ≤ place - length (kept_behind run place) =
+        reached-before number (place - length (kept_behind run place)) (suc place)
+        (omega (arith, reached))
+        (sym due ∙ unreached number begun.place (suc place) (inr earlier)) in
+        omega (arith, first, begin-next run place, begins-later at from before)
 
-    -- a number that was reached before the stretch was reached before each later one
-    reached-at : (number : ℕ) → stops.until ≡ Some number → number ≤ was.place
-        → (at : ℕ) → place ≤ at → number ≤ begin_at run at
-    reached-at number asked reached at from =
-        let none : (nat_lt (begin_at run place) number && nat_le number place) ≡ false =
-        sym (rw asked at tells.due) ∙ unreached number was.place place (inr reached) in
-        omega (
-          arith,
-          reached-before number (begin_at run place) place (omega (arith, reached, was-before))
-              none,
-          begin-from at from,
-        )
-
-    undue-by : (until : Option ℕ) → stops.until ≡ until → (at : ℕ) → place ≤ at → at < end
-        → is_due until (begin_at run at) at ≡ false
-    undue-by None asked at from before = refl
-    undue-by (Some number) asked at from before =
-        unreached number (begin_at run at) at
-        (⊎_elim (λ (less : end ≤ number). inl (omega (arith, less, before)))
-        (λ (reached : number ≤ was.place). inr (reached-at number asked reached at from))
+    undue-by : NoCause → (until : Option ℕ) → stops.until ≡ until
+        → (at : ℕ) → place ≤ at → suc at < end
+        → is_due until (begin_at run (suc at)) (suc at) ≡ false
+    undue-by none None asked at from before = refl
+    undue-by none (Some number) asked at from before =
+        unreached number (begin_at run (suc at)) (suc at)
+        (⊎_elim
+        (λ (reached : number ≤ place).
+        inr (reached-at none number asked reached at from (omega (arith, before))))
+        (λ (less : end ≤ number). inl (omega (arith, less, before)))
         (rw asked at capped))
 
-    plain-by : (boundary broken due : Bool)
-        → (boundary ≡ true → broken ≡ false) → due ≡ false
-        → (boundary && (broken || due)) ≡ false
-    plain-by true broken due unbroken undue = rw (unbroken refl, undue) refl
-    plain-by false broken due unbroken undue = refl
+    passed-next : (at : ℕ) → place ≤ at → suc at < end → IsPassed stops asleep run (suc at)
+    passed-next at from before =
+        let none : NoCause = no-cause at from (omega (arith, before)) in
+        let there : Sight = sight_at run (suc at) in
+        record {
+          met = none-next at from before (none-kept none at from (omega (arith, before)));
+          plain = plain-by there.boundary (is_broken_at stops there)
+              (is_due stops.until (begin_at run (suc at)) (suc at))
+              (unbroken (suc at) (omega (arith, from)) before)
+              (undue-by none stops.until refl at from before);
+          slept = λ sleeps earlier same.
+              let is : at ≡ earlier = omega (arith, same) in
+              subst (λ (there : ℕ). Sleeps run there) is
+              ((goes at from (omega (arith, before))).sleeps sleeps).sleeps;
+        }
 
-    are-passed : ArePassed stops asleep run place end
+    pub are-passed : ArePassed stops asleep run place end
     are-passed = λ at from before.
-        let by = goes at from before in
-        record {
-          met = none-at at from (omega (arith, before));
-          plain = plain-by (sight_at run at).boundary (is_broken_at stops (sight_at run at))
-              (is_due stops.until (begin_at run at) at) by.unbroken
-              (undue-by stops.until refl at from before);
-          unhit = by.unhit;
-          silent = by.silent;
-          sleeps = by.sleeps;
-        }
+        let same : suc (at - 1) ≡ at = omega (arith, from) in
+        subst (IsPassed stops asleep run) same
+        (passed-next (at - 1) (omega (arith, from)) (omega (arith, from, before)))
 
-    due-by : (until : Option ℕ) → stops.until ≡ until → place < end
-        → is_due until place end ≡ is_due until (begin_at run end) end
-    due-by None asked some = refl
-    due-by (Some number) asked some =
-        ⊎_elim
-        (λ (less : end ≤ number).
-        reached-alike number place (begin_at run end) end less some
-        (omega (arith, some, behind-some run end (omega (arith, some)))))
-        (λ (reached : number ≤ was.place).
-        unreached number place end (inr (omega (arith, reached, was-before)))
-        ∙ sym (unreached number (begin_at run end) end
-        (inr (reached-at number asked reached end (omega (arith, some))))))
-        (rw asked at capped)
+    -- the last step
+    module _ (last : ℕ) (ends : end ≡ suc last) where
+      later : place ≤ last
+      later = omega (arith, some, ends)
 
-    asleep-behind : (last : ℕ) → end ≡ suc last → place ≤ last → asleep ≡ true
-        → behind (view_of run) end ≡ sight_at run last ∷ []
-    asleep-behind last same from sleeps =
-        let view = view-there last (omega (arith, same)) in
-        let there : Sleeps run last = (goes last from (omega (arith, same))).sleeps sleeps in
-        ap (behind (view_of run)) same ∙ rw (view, there.from) refl
+      due-by : place < last → (until : Option ℕ) → stops.until ≡ until
+          → is_due until last (suc last)
+          ≡ is_due until (last - length (kept_behind run last)) (suc last)
+      due-by more None asked = refl
+      due-by more (Some number) asked =
+          let none : NoCause =
+          no-cause place (omega arith) (omega (arith, more, ends)) in
+          ⊎_elim
+          (λ (reached : number ≤ place).
+          unreached number last (suc last) (inr (omega (arith, reached, more)))
+          ∙ sym (unreached number (last - length (kept_behind run last)) (suc last)
+          (inr (omega (
+            arith,
+            begin-next run last,
+            reached-at none number asked reached last later (omega (arith, ends)),
+          )))))
+          (λ (less : end ≤ number).
+          reached-alike number last (last - length (kept_behind run last)) (suc last)
+          (omega (arith, less, ends)) (omega arith) (omega arith))
+          (rw asked at capped)
 
-    begins-asleep : (last : ℕ) → end ≡ suc last → place ≤ last → asleep ≡ true → (highest : ℕ)
-        → false ≡ begins_within highest (behind (view_of run) end)
-    begins-asleep last same from sleeps highest =
-        let there : Sleeps run last = (goes last from (omega (arith, same))).sleeps sleeps in
-        sym (rw (asleep-behind last same from sleeps, there.from, there.idle) refl)
+      sleeps-by : asleep ≡ true → (at : ℕ) → place ≤ at → suc at < end → SleepsOn run at
+      sleeps-by sleeps at from before = (goes at from (omega (arith, before))).sleeps sleeps
 
-    boots-asleep : (last : ℕ) → end ≡ suc last → place ≤ last → asleep ≡ true
-        → false ≡ boots (behind (view_of run) end)
-    boots-asleep last same from sleeps =
-        let there : Sleeps run last = (goes last from (omega (arith, same))).sleeps sleeps in
-        sym (rw (asleep-behind last same from sleeps, there.idle) refl)
+      level-by : asleep ≡ true → (at : ℕ) → place ≤ at → at < end
+          → (sight_at run at).level ≡ (sight_at run place).level
+      level-by sleeps = along
+          (λ (at : ℕ). (sight_at run at).level ≡ (sight_at run place).level) place end refl
+          (λ at from before same. (sleeps-by sleeps at from before).level ∙ same)
 
-    tells-behind : (level : ℕ) → place < end
-        → TellsCause stops asleep run end (stretch_from place level)
-    tells-behind level some =
-        let last : ℕ = end - 1 in
-        let same : end ≡ suc last = omega (arith, some) in
-        let from : place ≤ last = omega (arith, some) in
-        record {
-          begun = inr some;
-          first = sym (ap (hit_on Ahead) (none-at end (omega (arith, some)) (omega arith)));
-          due = due-by stops.until refl some;
-          begins = λ sleeps highest. begins-asleep last same from sleeps highest;
-          boot = λ sleeps. boots-asleep last same from sleeps;
-        }
+      level-there : (sight_at run place).boundary ≡ true
+          → begun.level ≡ (sight_at run place).level
+      level-there here =
+          ap (λ (stretch : Stretch). stretch.level)
+          (cond-true (sight_at run place).boundary
+          (stretch_from place (sight_at run place).level) was here)
 
--- a row that ends earlier
-capped-earlier : (until : Option ℕ) (begin end less : ℕ)
-    → less ≤ end → IsCapped until begin end → IsCapped until begin less
-capped-earlier None begin end less fewer capped = tt
-capped-earlier (Some number) begin end less fewer (inl before) =
-    inl (omega (arith, fewer, before))
-capped-earlier (Some number) begin end less fewer (inr reached) = inr reached
+      keeps-asleep : place < last → asleep ≡ true
+          → KeepsBehind stops.watches run last (stretch_from last begun.level)
+      keeps-asleep more sleeps =
+          let view : view_of run last ≡ sight_at run last =
+          view-there last (omega (arith, ends)) in
+          let slept : SleepsOn run (last - 1) =
+          sleeps-by sleeps (last - 1) (omega (arith, more)) (omega (arith, more, ends)) in
+          let same : suc (last - 1) ≡ last = omega (arith, more) in
+          let here : (view_of run last).boundary ≡ true =
+          ap (λ (sight : Sight). sight.boundary) view
+          ∙ subst (λ (at : ℕ). (sight_at run at).boundary ≡ true) same slept.sleeps.to in
+          let first : SleepsOn run place =
+          sleeps-by sleeps place (omega arith) (omega (arith, more, ends)) in
+          let level : (view_of run last).level ≡ begun.level =
+          ap (λ (sight : Sight). sight.level) view
+          ∙ level-by sleeps last later (omega (arith, ends))
+          ∙ sym (level-there first.sleeps.from) in
+          subst (λ (level : ℕ). KeepsBehind stops.watches run last (stretch_from last level)) level
+          (keeps-none stops.watches run last here)
 
--- and one of no step
-pub passed-none : (stops : Stops) (asleep : Bool) (run : Run) (place : ℕ)
-    → ArePassed stops asleep run place place
-passed-none stops asleep run place = λ at from before. absurd (omega (arith, from, before))
+      keeps-later : place < last
+          → KeepsTelling stops asleep run last (stretch_from last begun.level)
+      keeps-later more =
+          let none : NoCause =
+          no-cause place (omega arith) (omega (arith, more, ends)) in
+          record {
+            begun = inr (omega arith);
+            few = kept-few run last;
+            first = sym (ap (hit_on Ahead) (none-kept none last later (omega (arith, ends))));
+            due = due-by more stops.until refl;
+            exact = λ sleeps. keeps-asleep more sleeps;
+          }
 
--- a device that went on so
-pub quiet-row :
-    {D G : Type 0} {hash : Hash D} {flag : Flag G} (stops : Stops) (asleep : Bool) (run : Run)
-    (old new : Live D G) (playback : Playback) (was : Stretch) (limit : ℕ)
-    → HasGoneQuietlyOn hash flag (is_passed stops asleep) run.start run.events_at (steps_made old)
-    new playback
-    → TellsCause stops asleep run (steps_made old) was
-    → is_some was.first_hit ≡ false
-    → IsCapped stops.until was.place limit
-    → steps_made new ≤ limit
-    → limit ≤ most_steps
-    → ArePassed stops asleep run (steps_made old) (steps_made new)
-    × ((level : ℕ) → steps_made old < steps_made new
-    → TellsCause stops asleep run (steps_made new) (stretch_from (steps_made old) level))
-quiet-row stops asleep run old new playback was limit gone tells unhit capped within few =
-    let place : ℕ = steps_made old in
-    let end : ℕ = steps_made new in
-    let none : was.first_hit ≡ None = none_there was.first_hit unhit in
-    let earlier = capped-earlier stops.until was.place limit end within capped in
-    let last : end ≤ most_steps = omega (arith, within, few) in
-    let goes : (at : ℕ) → place ≤ at → at < end → GoesBy stops asleep run at =
-    λ at from before.
-    let (alone, is) = gone.quietly at from before in
-    goes-by stops asleep run at (omega (arith, before, last)) alone is in (
-      are-passed stops asleep run place end was tells none earlier last goes,
-      λ level some.
-          tells-behind stops asleep run place end was tells none earlier last goes level some,
-    )
+      of-last : (Holds : Stretch → Type 0) → (last ≡ place → Holds begun)
+          → (place < last → Holds (stretch_from last begun.level))
+          → Holds (stretch_of_last begun place last)
+      of-last Holds alone behind_others =
+          cond_both (last == place) begun (stretch_from last begun.level) Holds
+          (λ same. alone (eqb-true last place same))
+          (λ other. behind_others (less other))
+        where
+          less : (last == place) ≡ false → place < last
+          less other = grind (arith, nat_tests, other, later)
+
+      keeps-last : KeepsTelling stops asleep run last (stretch_of_last begun place last)
+      keeps-last =
+          of-last (KeepsTelling stops asleep run last)
+          (λ same. subst (λ (at : ℕ). KeepsTelling stops asleep run at begun) (sym same) keeps)
+          keeps-later
+
+      unbooted : GoesBy stops asleep run last → asleep ≡ true
+          → (stretch_of_last begun place last).boots ≡ false
+      unbooted by sleeps =
+          of-last (λ (stretch : Stretch). stretch.boots ≡ false)
+          (λ same.
+          ap (λ (stretch : Stretch). stretch.boots)
+          (cond-true (sight_at run place).boundary
+          (stretch_from place (sight_at run place).level) was
+          (subst (λ (at : ℕ). (sight_at run at).boundary ≡ true) same
+          (by.sleeps sleeps).sleeps.from)))
+          (λ more. refl)
+
+      tells-last : (kept : Bool) → (kept ≡ false → GoesBy stops asleep run last)
+          → TellsCause stops asleep run (suc last)
+          (stretch_behind stops.watches run place begun last kept)
+      tells-last true by =
+          tells-past stops asleep run last (stretch_of_last begun place last)
+          (omega (arith, ends, within)) keeps-last
+      tells-last false by =
+          tells-over stops asleep run last (stretch_of_last begun place last)
+          (omega (arith, ends, within)) keeps-last (by refl) (unbooted (by refl))
+
+capped-earlier : (until : Option ℕ) (place limit end : ℕ)
+    → end ≤ limit → IsCapped until place limit → IsCapped until place end
+capped-earlier None place limit end fewer capped = tt
+capped-earlier (Some number) place limit end fewer (inl reached) = inl reached
+capped-earlier (Some number) place limit end fewer (inr less) = inr (omega (arith, fewer, less))
+
+module _ {D G : Type 0} {hash : Hash D} {flag : Flag G} {every_step : Bool} (run : Run)
+    (place : ℕ) (live : Live D G) (playback : Playback)
+  where
+    -- before the last step of a row the flags are those where it began
+    pub row-flags : (quiet : Question)
+        → HasGoneOn hash flag every_step quiet run.start run.events_at place live playback
+        → (last : ℕ) → steps_made live ≡ suc last → place ≤ last
+        → (exec_at run place ≡ exec_at run last) × (aux_at run place ≡ aux_at run last)
+    row-flags quiet gone last ends from = along
+        (λ (at : ℕ). (exec_at run place ≡ exec_at run at) × (aux_at run place ≡ aux_at run at))
+        place (steps_made live) (refl, refl)
+        (λ at later before same.
+        let (alone, is) = gone.quietly at later (omega (arith, before)) in
+        let next = flags-next quiet run at alone is in
+        (same.0 ∙ sym next.0, same.1 ∙ sym next.1))
+        last from (omega (arith, ends))
+
+    module _ (stops : Stops) (asleep : Bool)
+        (gone : HasGoneOn hash flag every_step (goes_over stops asleep) run.start run.events_at
+        place live playback)
+        (within : steps_made live ≤ most_steps)
+      where
+        goes-on : (at : ℕ) → place ≤ at → at + 1 < steps_made live → GoesBy stops asleep run at
+        goes-on at from before =
+            let (alone, is) = gone.quietly at from before in
+            goes-by stops asleep run at (omega (arith, before, within)) alone is
+
+        pub row-silent : AreSilent run place (steps_made live - 1)
+        row-silent = λ at from before. (goes-on at from (omega (arith, before))).silent
+
+        goes-last : (last : ℕ) → steps_made live ≡ suc last
+            → is_some (machine_of live).bus.last ≡ false → GoesBy stops asleep run last
+        goes-last last ends none =
+            let (alone, is) =
+            gone.unkept last ends (none_there (machine_of live).bus.last none) in
+            goes-by stops asleep run last (omega (arith, ends, within)) alone is
+
+        module _ (limit : ℕ) (was : Stretch)
+            (known : ((sight_at run place).boundary ≡ true) ⊎ TellsCause stops asleep run place was)
+            (some : place < steps_made live) (limited : steps_made live ≤ limit)
+            (capped : IsCapped stops.until place limit)
+            (one : (has_cause (stretch_there run place was) stops.until place ≡ false)
+            ⊎ (limit ≡ place + 1))
+          where
+            keeps : KeepsTelling stops asleep run place (stretch_there run place was)
+            keeps = tells-there stops asleep run place (omega (arith, some, within)) was known
+
+            one-step : (has_cause (stretch_there run place was) stops.until place ≡ false)
+                ⊎ (steps_made live ≡ place + 1)
+            one-step =
+                ⊎_elim (λ none. inl none)
+                (λ (alone : limit ≡ place + 1). inr (omega (arith, alone, some, limited))) one
+
+            unbroken-on : (at : ℕ) → place < at → at < steps_made live
+                → (sight_at run at).boundary ≡ true
+                → is_broken_at stops (sight_at run at) ≡ false
+            unbroken-on at from before here =
+                unbroken-at stops asleep run at (gone.between at from before) here
+
+            ends-capped : IsCapped stops.until place (steps_made live)
+            ends-capped =
+                capped-earlier stops.until place limit (steps_made live) limited capped
+
+            pub row-passed : ArePassed stops asleep run place (steps_made live)
+            row-passed =
+                are-passed stops asleep run place (steps_made live) was keeps some within
+                ends-capped one-step goes-on unbroken-on
+
+            pub row-tells : (last : ℕ) → steps_made live ≡ suc last
+                → TellsCause stops asleep run (suc last)
+                (stretch_behind stops.watches run place (stretch_there run place was) last
+                (is_some (machine_of live).bus.last))
+            row-tells last ends =
+                tells-last stops asleep run place (steps_made live) was keeps some within
+                ends-capped one-step goes-on unbroken-on last ends
+                (is_some (machine_of live).bus.last) (goes-last last ends)

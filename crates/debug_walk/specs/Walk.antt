@@ -1,9 +1,9 @@
 -- A device on its way through the places of a run, and what is kept of the steps since a boundary.
-use Rattle.std.specs.Prelude.{◌≡◌, ◌<◌, ◌⊎◌, ◌&&◌, ◌-◌, ℕ, Bool, true, List, [], ◌∷◌, Option, None, length, nat_le, if◌then◌else◌}
+use Rattle.std.specs.Prelude.{◌≡◌, ◌<◌, ◌⊎◌, ◌&&◌, ◌-◌, ℕ, suc, Bool, true, List, [], ◌∷◌, Option, None, length, nat_le, if◌then◌else◌}
 use Rattle.std.specs.Option.{option_or}
 use Rattle.bus_signals.specs.{declared.rule.Rule.Rule, TraceFlag.Flag}
-use Rattle.debug_session.specs.{declared.{command.Way.TheVariants.{Ahead, Back}, watch.Watch.Watch}, Cause.{begins_within, behind, boots, hit_on, hits, is_due}, Place.{Run, sight_at, view_of}, Sight.Sight, Stops.Stops}
-use Rattle.debug_walk.specs.{Stretch.stretch_from, declared.{stretch.Stretch.Stretch, walk.Walk.Walk}}
+use Rattle.debug_session.specs.{declared.{command.Way.TheVariants.{Ahead, Back}, seen_accesses.SeenAccesses.SeenAccesses, watch.Watch.Watch}, Cause.{begins_within, behind, boots, hit_on, hits, is_due}, Place.{Run, aux_at, differs, exec_at, sight_at, step_at, view_of}, Sight.Sight, Stops.Stops, Watched.seen_accesses}
+use Rattle.debug_walk.specs.{Stretch.{stretch_from, stretch_of_last, stretch_with}, declared.{stretch.Stretch.Stretch, walk.Walk.Walk}}
 use Rattle.device_core.specs.{Device.steps_made, declared.live.Live.Live}
 use Rattle.device_play.specs.Midway.{IsMidway}
 use Rattle.execution_flags.specs.{RunFlag.flag_of_run, declared.{run_flag.RunFlag.RunFlag, aux_flag.AuxConditions.AuxConditions}}
@@ -61,14 +61,20 @@ abbrev pub stretch_there : Run → ℕ → Stretch → Stretch
 stretch_there run place stretch =
     if (sight_at run place).boundary then stretch_from place (sight_at run place).level else stretch
 
+-- what a watch sees of the step at a place
+abbrev pub seen_at : Run → ℕ → SeenAccesses
+seen_at run place =
+    seen_accesses (step_at run place) (differs (exec_at run place) (exec_at run (suc place)))
+    (differs (aux_at run place) (aux_at run (suc place)))
+
 -- a walk that begins a stretch, or knows all of the one where it is
 abbrev pub IsFresh : {D : Type 0} → Run → Walk D → Type 0
 IsFresh run walk =
     ((sight_at run (place_of walk)).boundary ≡ true)
     ⊎ ((watches : List Watch) → IsStretch watches run (place_of walk) walk.stretch)
 
--- what is kept says why to stop here, whatever steps were gone over: a watch, a number of steps,
--- and where each instruction counts a step
+-- what is kept says why to stop here, whatever steps were gone over: a watch and a number of steps;
+-- where each instruction counts, it is that of all the steps
 pub record TellsCause (stops : Stops) (asleep : Bool) (run : Run) (place : ℕ) (stretch : Stretch)
     : Type 0 where
   pub begun : (stretch.place ≡ 0) ⊎ (stretch.place < place)
@@ -76,6 +82,15 @@ pub record TellsCause (stops : Stops) (asleep : Bool) (run : Run) (place : ℕ) 
       ≡ hit_on Ahead (hits stops.watches (behind (view_of run) place))
   pub due : is_due stops.until stretch.place place
       ≡ is_due stops.until (place - length (behind (view_of run) place)) place
-  pub begins : asleep ≡ true → (highest : ℕ) → (stretch.begins && nat_le stretch.level highest)
-      ≡ begins_within highest (behind (view_of run) place)
-  pub boot : asleep ≡ true → stretch.boots ≡ boots (behind (view_of run) place)
+  pub exact : asleep ≡ true → IsStretch stops.watches run place stretch
+
+-- with the step at a place, which is looked at
+abbrev pub stretch_past : List Watch → Run → ℕ → Stretch → Stretch
+stretch_past watches run place before =
+    stretch_with before place (step_at run place) (seen_at run place) watches
+
+-- behind a row in this stretch, whose last step is looked at where it was kept
+abbrev pub stretch_behind : List Watch → Run → ℕ → Stretch → ℕ → Bool → Stretch
+stretch_behind watches run from stretch last kept =
+    if kept then stretch_past watches run last (stretch_of_last stretch from last)
+    else stretch_of_last stretch from last

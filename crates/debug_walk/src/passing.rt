@@ -1,4 +1,5 @@
 ghost use Rattle.std.specs.Prelude.{◌≡◌};
+ghost use Rattle.debug_walk.specs.Passing.{goes_over, is_passed};
 
 use bus_signals::Access;
 use debug_session::StopList;
@@ -25,19 +26,26 @@ impl<'s> Passing<'s> {
     {
         self.stops
     }
+
+    // No access, or one that stops nothing.
+    #[inline(always)]
+    fn is_passed(&self, access: Option<Access>) -> bool
+        ensures { result ≡ is_passed self.now.stops.now self.now.asleep access }
+    {
+        match access {
+            None => true,
+            Some(_) if self.asleep => false,
+            Some(Access::Fetch(place)) => !self.stops.has_breakpoint(place),
+            Some(access) => !self.stops.is_hit(access),
+        }
+    }
 }
 
 impl Quiet for Passing<'_> {
-    ghost use Rattle.debug_walk.specs.Passing.{is_passed};
-
-    ghost quiet = { λ passing access. is_passed passing.stops.now passing.asleep access };
+    ghost quiet = { λ passing cpu dma. goes_over passing.stops.now passing.asleep cpu dma };
 
     #[inline(always)]
-    fn is_quiet(&self, access: Access) -> bool {
-        !self.asleep
-            && match access {
-                Access::Fetch(place) => !self.stops.has_breakpoint(place),
-                Access::Read(..) | Access::Write(..) => !self.stops.is_hit(access),
-            }
+    fn is_quiet(&self, cpu: Option<Access>, dma: Option<Access>) -> bool {
+        self.is_passed(cpu) && self.is_passed(dma)
     }
 }

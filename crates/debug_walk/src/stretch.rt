@@ -1,6 +1,6 @@
 ghost use Rattle.std.specs.Prelude.{◌≡◌, ◌&&◌, ◌||◌, ◌<◌, None, nat_le};
 ghost use Rattle.debug_session.specs.Cause.{is_due, refusal_or};
-ghost use Rattle.debug_walk.specs.Stretch.{is_instruction, stretch_from, stretch_with};
+ghost use Rattle.debug_walk.specs.Stretch.{has_cause, is_instruction, stretch_from, stretch_of_last, stretch_with};
 
 use bus_signals::{BusRecord, Kind, Rule};
 use debug_session::{Hit, SeenAccesses, Watch};
@@ -35,6 +35,18 @@ impl Stretch {
             first_hit: None,
             last_hit: None,
             refused: None,
+        }
+    }
+
+    /// That of the last step of a row that begins at a place of this one: behind others it begins
+    /// anew, at the same level.
+    pub fn of_last(self, place: u64, last: u64) -> Stretch
+        ensures { result ≡ stretch_of_last self place last }
+    {
+        if last == place {
+            self
+        } else {
+            Stretch::from(last, self.level)
         }
     }
 
@@ -77,6 +89,13 @@ impl Stretch {
         ensures { result ≡ is_due until self.now.place place }
     {
         until.is_some_and(|until| self.place < until && until <= place)
+    }
+
+    /// Whether there was a hit, or so many steps were made within it.
+    pub fn has_cause(&self, place: u64, until: Option<u64>) -> bool
+        ensures { result ≡ has_cause self.now until place }
+    {
+        self.first_hit.is_some() || self.reaches(place, until)
     }
 }
 

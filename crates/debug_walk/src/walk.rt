@@ -1,15 +1,16 @@
-ghost use Rattle.std.specs.Prelude.{◌≡◌, ◌<◌, ◌≤◌, ◌+◌, ◌-◌, ◌⊎◌, ◌||◌, Bool, IfOk, IfSome, false, max, min, true};
+ghost use Rattle.std.specs.Prelude.{◌≡◌, ◌<◌, ◌≤◌, ◌+◌, ◌-◌, ◌⊎◌, ◌||◌, ℕ, IfOk, IfSome, false, is_some, min, suc, true, if◌then◌else◌};
 ghost use Rattle.part_definitions.specs.CpuRegister.{is_asleep, pc_of};
-ghost use Rattle.debug_session.specs.{Request.most_steps, Cause.{is_awake, is_broken_at, is_due}, Place.{Run, differs, sight_at}, Stops.{Stops, is_empty}};
-ghost use Rattle.debug_walk.specs.{Copies.IsCopy, Passing.{ArePassed, AreSilent, IsCapped}, Stretch.stretch_from, Walk.{IsStretch, OfMidway, OfWalk, TellsCause, Walks, place_of, stretch_there}};
-ghost use Rattle.device_core.specs.Device.{HasStepped, steps_made};
+ghost use Rattle.debug_session.specs.{Request.most_steps, Cause.{is_awake, is_broken_at, is_due}, Place.{Run, aux_at, differs, exec_at, sight_at}};
+ghost use Rattle.debug_walk.specs.{Copies.IsCopy, Passing.{ArePassed, AreSilent, IsCapped}, Stretch.{has_cause, stretch_from}, Walk.{IsStretch, OfMidway, OfWalk, TellsCause, Walks, place_of, second_flag, stretch_behind, stretch_past, stretch_there}};
+ghost use Rattle.device_core.specs.Device.{HasStepped, machine_of, steps_made};
+ghost use Rattle.device_play.specs.Midway.{HasGoneOn};
 
 use crate::passing::Passing;
 use crate::stretch::Stretch;
 use bus_signals::ROM_ENTRY;
 use debug_session::{MOST_STEPS, SeenAccesses, StopList, Watch};
-use device_core::Live;
-use device_play::{LineWatcher, TraceWatcher, make_quiet_steps, play_to_shown};
+use device_core::{AllQuiet, Live, NoneQuiet, Quiet};
+use device_play::{LineWatcher, TraceWatcher, Watcher, play_to_shown};
 use execution_flags::AuxFlag;
 use hmac_core::Digest32;
 use play_script::Playback;
@@ -46,13 +47,6 @@ impl<'a, D: Digest32> Walk<'a, D> {
 
     pub fn place(&self) -> u64
         ensures { result ≡ place_of self.now }
-    {
-        self.live.steps()
-    }
-
-    /// Its place, without the device.
-    pub fn into_place(self) -> u64
-        ensures { result ≡ place_of self.entry }
     {
         self.live.steps()
     }
@@ -129,67 +123,90 @@ impl<'a, D: Digest32> Walk<'a, D> {
         ensures walks { (run : Run)
             → Walks D.hash run self.entry
             → Walks D.hash run result }
+        ensures place { place_of result ≡ place_of self.entry + 1 }
+        ensures kept { HasStepped result.live }
         ensures stretch { OfWalk D.hash self.entry (λ run place.
             (((sight_at run place).boundary ≡ true)
             ⊎ IsStretch watches.now run place self.entry.stretch)
             → IsStretch watches.now run (place + 1) result.stretch) }
-        ensures tells { (stops : Stops) (asleep : Bool)
-            → stops.watches ≡ watches.now
-            → OfWalk D.hash self.entry (λ run place.
-            (((sight_at run place).boundary ≡ true)
-            ⊎ TellsCause stops asleep run place self.entry.stretch)
-            → TellsCause stops asleep run (place + 1) result.stretch) }
-        ensures place { place_of result ≡ place_of self.entry + 1 }
-        ensures kept { HasStepped result.live }
     {
+        let end = self.place() + 1;
+        self.make_row::<TraceWatcher, NoneQuiet>(&NoneQuiet, watches, end)
+    }
+
+    /// Makes a row of steps up to one that may stop a device, which is looked at, or to a place.
+    pub fn play_row(self, passing: &Passing<'_>, end: u64) -> Walk<'a, D>
+        requires more { place_of self < end }
+        requires few { end ≤ most_steps }
+        ensures walks { (run : Run)
+            → Walks D.hash run self.entry
+            → Walks D.hash run result }
+        ensures within { (place_of self.entry < place_of result) × (place_of result ≤ end) }
+        ensures silent { OfWalk D.hash self.entry (λ run place.
+            AreSilent run place (place_of result - 1)) }
+        ensures tells { OfWalk D.hash self.entry (λ run place.
+            (((sight_at run place).boundary ≡ true)
+            ⊎ TellsCause passing.now.stops.now passing.now.asleep run place self.entry.stretch)
+            → TellsCause passing.now.stops.now passing.now.asleep run (place_of result)
+            result.stretch) }
+        ensures passed { OfWalk D.hash self.entry (λ run place.
+            (((sight_at run place).boundary ≡ true)
+            ⊎ TellsCause passing.now.stops.now passing.now.asleep run place self.entry.stretch)
+            → ArePassed passing.now.stops.now passing.now.asleep run place (place_of result)) }
+    {
+        let end = self.row_end(passing.stops(), end);
+        self.make_row::<LineWatcher, Passing<'_>>(passing, passing.stops().watches(), end)
+    }
+
+    // Where a row of steps ends at the latest: where the number of steps is reached, and behind one
+    // step in a stretch in which there was a hit or that number was reached.
+    fn row_end(&self, stops: &StopList, end: u64) -> u64
+        requires { place_of self.now < end }
+        ensures within { (place_of self.now < result) × (result ≤ end) }
+        ensures capped { IsCapped stops.now.until (place_of self.now) result }
+        ensures one { OfWalk D.hash self.now (λ run place.
+            (has_cause (stretch_there run place self.now.stretch) stops.now.until place ≡ false)
+            ⊎ (result ≡ place + 1)) }
+    {
+        let place = self.place();
         let stretch = self.next_stretch();
+        if stretch.has_cause(place, stops.until()) {
+            return place + 1;
+        }
+        match stops.until() {
+            Some(until) if place < until => until.min(end),
+            _ => end,
+        }
+    }
+
+    // Makes a row of steps, up to a place at most, and looks at the last one where it is kept.
+    fn make_row<O: Watcher, Q: Quiet>(self, quiet: &Q, watches: &[Watch], end: u64) -> Walk<'a, D>
+        requires more { place_of self < end }
+        requires few { end ≤ most_steps }
+        ensures within { (place_of self.entry < place_of result) × (place_of result ≤ end) }
+        ensures kept { O.every_step ≡ true → HasStepped result.live }
+        ensures row { OfWalk D.hash self.entry (λ run place.
+            HasGoneOn D.hash second_flag O.every_step (Q.quiet quiet.now) run.start run.events_at
+            place result.live result.playback) }
+        ensures stretch { OfWalk D.hash self.entry (λ run place. (last : ℕ)
+            → place_of result ≡ suc last
+            → result.stretch ≡ stretch_behind watches.now run place
+            (stretch_there run place self.entry.stretch) last
+            (is_some (machine_of result.live).bus.last)) }
+    {
+        let place = self.place();
+        let begun = self.next_stretch();
         let Walk {
             live,
             mut playback,
             ..
         } = self;
-        let step = live.steps();
         let exec = live.exec();
         let aux = live.aux();
-        let live = play_to_shown::<TraceWatcher, D, AuxFlag>(live, &mut playback, step + 1);
-        let entry = live.entry();
-        let seen = SeenAccesses::new(entry, differs(exec, live.exec()), differs(aux, live.aux()));
-        let stretch = stretch.with(step, entry, &seen, watches);
-        Walk {
-            live,
-            playback,
-            stretch,
-        }
-    }
-
-    /// Goes on over steps that stop nothing, behind one that was looked at, up to a place at most.
-    pub fn make_quiet_steps(self, passing: &Passing<'_>, end: u64) -> Walk<'a, D>
-        requires few { end ≤ most_steps }
-        ensures walks { (run : Run)
-            → Walks D.hash run self.entry
-            → Walks D.hash run result }
-        ensures within { (place_of self.entry ≤ place_of result)
-            × (place_of result ≤ max end (place_of self.entry)) }
-        ensures tells { OfWalk D.hash self.entry (λ run place.
-            TellsCause passing.now.stops.now passing.now.asleep run place self.entry.stretch
-            → TellsCause passing.now.stops.now passing.now.asleep run (place_of result)
-            result.stretch) }
-        ensures quiet { OfWalk D.hash self.entry (λ run place.
-            TellsCause passing.now.stops.now passing.now.asleep run place self.entry.stretch
-            → ArePassed passing.now.stops.now passing.now.asleep run place (place_of result)) }
-    {
-        let place = self.place();
-        let end = quiet_end(passing.stops().until(), self.stretch.place, place, end);
-        if self.stretch.first_hit.is_some() || end <= place {
-            return self;
-        }
-        let Walk {
-            live,
-            playback,
-            stretch,
-        } = self;
-        let live = make_quiet_steps(live, &playback, passing, end);
-        let stretch = quiet_stretch(stretch, place, &live);
+        let live = play_to_shown::<O, Q, D, AuxFlag>(live, &mut playback, quiet, end);
+        let last = live.steps() - 1;
+        let before = begun.of_last(place, last);
+        let stretch = with_kept_step(before, &live, exec, aux, watches);
         Walk {
             live,
             playback,
@@ -205,27 +222,8 @@ impl<'a, D: Digest32> Walk<'a, D> {
             → Walks D.hash run self.entry
             → Walks D.hash run result }
         ensures within { (place_of self.entry < place_of result) × (place_of result ≤ end) }
-        ensures silent { OfWalk D.hash self.entry (λ run place.
-            AreSilent run place (place_of result - 1)) }
-        ensures tells { (stops : Stops)
-            → is_empty stops ≡ true
-            → OfWalk D.hash self.entry (λ run place.
-            (((sight_at run place).boundary ≡ true)
-            ⊎ TellsCause stops false run place self.entry.stretch)
-            → TellsCause stops false run (place_of result) result.stretch) }
     {
-        let stretch = self.next_stretch();
-        let Walk {
-            live,
-            mut playback,
-            ..
-        } = self;
-        let live = play_to_shown::<LineWatcher, D, AuxFlag>(live, &mut playback, end);
-        Walk {
-            live,
-            playback,
-            stretch,
-        }
+        self.make_row::<LineWatcher, AllQuiet>(&AllQuiet, &[], end)
     }
 
     /// Plays on up to a place, to the last one at most.
@@ -259,28 +257,30 @@ impl<'a, D: Digest32> Walk<'a, D> {
     }
 }
 
-// Where a row of steps from a place on ends, in a stretch that began earlier: where the number of
-// steps is reached at the latest, and at once where it was reached within the stretch.
-fn quiet_end(until: Option<u64>, begin: u64, place: u64, end: u64) -> u64
-    ensures within { place < result → result ≤ end }
-    ensures capped { place < result → IsCapped until begin result }
+// With the last step, if it is kept; before it the flags were these.
+fn with_kept_step<D: Digest32>(
+    before: Stretch,
+    live: &Live<D, AuxFlag>,
+    exec: bool,
+    aux: bool,
+    watches: &[Watch],
+) -> Stretch
+    requires { 0 < steps_made live.now }
+    ensures { OfMidway D.hash live.now (λ run place. (last : ℕ)
+        → place ≡ suc last
+        → exec ≡ exec_at run last
+        → aux ≡ aux_at run last
+        → result ≡ (if is_some (machine_of live.now).bus.last
+        then stretch_past watches.now run last before else before)) }
 {
-    match until {
-        Some(until) if place < until => until.min(end),
-        Some(until) if begin < until => place,
-        _ => end,
-    }
-}
-
-// What is kept behind a row of steps from a place on.
-fn quiet_stretch<D: Digest32>(stretch: Stretch, place: u64, live: &Live<D, AuxFlag>) -> Stretch
-    ensures stays { steps_made live.now ≡ place → result ≡ stretch }
-    ensures goes { place < steps_made live.now → result ≡ stretch_from place result.level }
-{
-    if live.steps() == place {
-        stretch
-    } else {
-        Stretch::from(place, live.level())
+    match live.kept_entry() {
+        Some(entry) => {
+            let exec_changed = differs(exec, live.exec());
+            let aux_changed = differs(aux, live.aux());
+            let seen = SeenAccesses::new(entry, exec_changed, aux_changed);
+            before.with(live.steps() - 1, entry, &seen, watches)
+        }
+        None => before,
     }
 }
 

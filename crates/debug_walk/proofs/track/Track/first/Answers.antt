@@ -1,4 +1,4 @@
-use Rattle.std.proofs.Common.{◌≡◌, ◌+◌, ◌∙◌, ◌⊎◌, inl, inr, ⊎_elim, ℕ, true, false, [], subst, sym, arith}
+use Rattle.std.proofs.Common.{◌≡◌, ◌∙◌, inl, inr, ⊎_elim, ℕ, true, false, [], subst, sym, arith}
 use Rattle.std.proofs.lemmas.Bool.{cases_Bool}
 use Rattle.debug_session.specs.Place.{Run, sight_at}
 use Rattle.debug_walk.specs.{Copies.IsBegun, PlayedRun.played_run, Walk.{IsFresh, IsStretch, place_of}}
