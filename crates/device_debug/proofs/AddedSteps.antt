@@ -71,8 +71,8 @@ module _ {W : Type 0} (w : sink.Ghosts W) (view : View) (text_of : StepSight →
         passed = omega (arith, first.passed, after);
         within = omega (arith, below, after);
         added = rw whole
-            (added_both w old mid new rest (texts_from view text_of from (place - from)) rest_mid text
-            rest_new first.added step);
+            (added_both w old mid new rest (texts_from view text_of from (place - from)) rest_mid
+            text rest_new first.added step);
       }
 
   pub all_added : (old new : PacketSink W) (rest rest_new : List ℕ) (from until place : ℕ)
@@ -80,7 +80,8 @@ module _ {W : Type 0} (w : sink.Ghosts W) (view : View) (text_of : StepSight →
       → HasAdded w old new rest (texts_from view text_of from (until - from)) rest_new
   all_added old new rest rest_new from until place end so =
       let same : place ≡ until = omega (arith, so.within, end) in
-      subst (λ (one : ℕ). HasAdded w old new rest (texts_from view text_of from (one - from)) rest_new)
+      subst
+      (λ (one : ℕ). HasAdded w old new rest (texts_from view text_of from (one - from)) rest_new)
       same so.added
 
   -- a call failed at the step of a place

@@ -5,9 +5,9 @@ use Rattle.std.proofs.lemmas.Option.{same_Some}
 use Rattle.hmac_core.specs.Hash.{Hash}
 use Rattle.outside_edge.specs.Sink.{Takes, TakesPrefix}
 use Rattle.outside_edge.specs.declared.sink.Sink as sink
-use Rattle.debug_link.specs.{Conversation.Answer, Packet.packet_of, Writing.{Answers, PacketSink}, declared.{answer_fault.AnswerFault.AnswerFault, connection.Connection.{Connection, TheVariants.{Closed, Open}}}}
+use Rattle.debug_link.specs.{Conversation.{Answer, HaveCome, count_of}, Packet.packet_of, Writing.{Answers, PacketSink}, declared.{answer_fault.AnswerFault.AnswerFault, connection.Connection.{Connection, TheVariants.{Closed, Open}}}}
 use Rattle.debug_session.specs.{Command.command_of, declared.request.Request.{Request, TheVariants.Until}, Place.{Run, view_of}, Session.{Session, after_request, answer_of, closes, reply, says, with_stops}, Stops.Stops}
-use Rattle.debug_link.proofs.Bodies.{put_none}
+use Rattle.debug_link.proofs.{Bodies.put_none, Interrupts.none-came}
 use Rattle.debug_walk.specs.{PlayedRun.played_run, Walk.OfWalk, declared.walk.Walk.Walk}
 use Rattle.device_debug.specs.{Going.StandsAt, Session.{DebuggerStandsFor, Gives, MayGive, RunSession, StandsInRun, in_run, run_at, run_reply}, declared.{debugger.Debugger.Debugger, run_debugger.RunDebugger.RunDebugger}}
 use Rattle.device_debug.proofs.Answered.{all-answered, half-answered, half-put, none-answered, one-put}
@@ -92,27 +92,28 @@ module _ {D W : Type 0} (hash : Hash D) (w : sink.Ghosts W) where
         same_run = run;
       }
 
-  pub may-fail : (same : PacketSink W) (old new : Debugger D)
+  pub may-fail : (left left_new : Option ℕ) (same : PacketSink W) (old new : Debugger D)
       (answer : Option ℕ → Session → Answer Session) (result : Result Connection AnswerFault)
-      → IsErr result → new.track.run ≡ old.track.run
-      → MayGive hash w same same old new answer result
-  may-fail same old new answer result is run =
+      → HaveCome 0 left left_new → IsErr result → new.track.run ≡ old.track.run
+      → MayGive hash w left left_new same same old new answer result
+  may-fail left left_new same old new answer result came is run =
       record {
         answers = λ session stands. (
           None,
+          came,
           none-answered (DebuggerStandsFor hash) w same new (answer None session) result is,
         );
         same_run = run;
       }
 
   -- an answer that nothing interrupts
-  pub uninterrupted : (old new : PacketSink W) (before after : Debugger D)
+  pub uninterrupted : (left : Option ℕ) (old new : PacketSink W) (before after : Debugger D)
       (answer : Session → Answer Session) (result : Result Connection AnswerFault)
       → Gives hash w old new before after answer result
-      → MayGive hash w old new before after (λ interrupt. answer) result
-  uninterrupted old new before after answer result gives =
+      → MayGive hash w left left old new before after (λ interrupt. answer) result
+  uninterrupted left old new before after answer result gives =
       record {
-        answers = λ session stands. (None, gives.answers session stands);
+        answers = λ session stands. (None, none-came left, gives.answers session stands);
         same_run = gives.same_run;
       }
 
@@ -274,19 +275,21 @@ module _ {D W : Type 0} (hash : Hash D) (w : sink.Ghosts W) where
           }
 
   -- and so a body is
-  pub replied : {I : Type 0} (old new : PacketSink W) (before after : RunDebugger D I)
-      (body : List ℕ) (result : Result Connection AnswerFault)
-      → MayGive hash w old new before.debugger after.debugger
+  pub replied : {I : Type 0} (left left_new : Option ℕ) (old new : PacketSink W)
+      (before after : RunDebugger D I) (body : List ℕ) (result : Result Connection AnswerFault)
+      → MayGive hash w left left_new old new before.debugger after.debugger
       (λ interrupt session.
       answer_of (view_of (run_at hash before.debugger)) interrupt session (command_of body)) result
       → (now : RunSession) → StandsInRun hash before now
-      → (interrupt : Option ℕ)
+      → (interrupt : Option ℕ) × HaveCome (count_of interrupt) left left_new
       × Answers (StandsInRun hash) w old new after (run_reply interrupt now body) result
   unfolding reply
-  replied old new before after body result gives now stands =
+  replied left left_new old new before after body result gives now stands =
       let one = gives.answers now.session stands.1 in (
         one.0,
+        one.1,
         answered-in_run old new before after gives.same_run
-            (λ run session. answer_of (view_of run) one.0 session (command_of body)) result now stands
-            one.1,
+            (λ run session. answer_of (view_of run) one.0 session (command_of body)) result now
+            stands
+            one.2,
       )

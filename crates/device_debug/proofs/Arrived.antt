@@ -2,6 +2,7 @@
 use Rattle.std.proofs.Common.{◌≡◌, ◌≤◌, ◌<◌, inl, ℕ, true, Option, Some, None, refl, subst, sym, arith}
 use Rattle.hmac_core.specs.Hash.{Hash}
 use Rattle.debug_session.specs.{Request.most_steps, Cause.Step, Going.{Standing, interrupted, last_stop}, Place.{Run, sight_at, view_of}, Sight.Sight, Stops.Stops, declared.stop.Stop.{Stop, TheVariants.{Begin, Interrupted}}}
+use Rattle.debug_link.specs.Conversation.{HaveCome, count_of}
 use Rattle.debug_session.proofs.{Scans.last-none, Views.view-at}
 use Rattle.debug_walk.specs.{Copies.{IsAt, IsBegun}, Walk.place_of, declared.walk.Walk.Walk}
 use Rattle.device_debug.specs.{Back.IsLastBehind, Going.{HasArrived, StandsAt}}
@@ -40,30 +41,33 @@ module _ {D : Type 0} (hash : Hash D) (run : Run) where
         stop_is = refl;
       })
 
-  module _ (stops : Stops) (step : Option Step) (from end : ℕ) (same : end ≡ from) where
+  module _ (stops : Stops) (step : Option Step) (from end : ℕ) (same : end ≡ from)
+      (left left_new : Option ℕ) where
     abbrev aim : Standing
     aim = last_stop (cause_back run stops step from) from
 
     abbrev pub ArrivesBack : Walk D → Stop → Type 0
     ArrivesBack walk stop =
-        (interrupt : Option ℕ)
+        (interrupt : Option ℕ) × HaveCome (count_of interrupt) left left_new
         × HasArrived hash run (interrupted (view_of run) from interrupt aim) walk stop
 
     -- an interrupt left it where it is
-    pub back-interrupted : (walk : Walk D) → StandsAt hash run from walk
-        → ArrivesBack walk Interrupted
-    back-interrupted walk stands = (
+    pub back-interrupted : (walk : Walk D) → HaveCome 1 left left_new
+        → StandsAt hash run from walk → ArrivesBack walk Interrupted
+    back-interrupted walk came stands = (
       Some from,
+      came,
       subst (λ (one : Standing). HasArrived hash run one walk Interrupted)
           (sym (interrupted-here (view_of run) from aim))
           (record { stands = stands; stop_is = refl }),
     )
 
-    of-end : (walk : Walk D) (stop : Stop)
+    of-end : (walk : Walk D) (stop : Stop) → HaveCome 0 left left_new
         → HasArrived hash run (last_stop (cause_back run stops step end) end) walk stop
         → ArrivesBack walk stop
-    of-end walk stop arrived = (
+    of-end walk stop came arrived = (
       None,
+      came,
       subst
           (λ (one : ℕ). HasArrived hash run (last_stop (cause_back run stops step one) one) walk
           stop)
@@ -71,32 +75,33 @@ module _ {D : Type 0} (hash : Hash D) (run : Run) where
     )
 
     -- there is no place before it
-    pub back-begun : (walk : Walk D) → end ≤ 1 → IsBegun hash run walk → place_of walk ≡ 1
+    pub back-begun : (walk : Walk D) → HaveCome 0 left left_new → end ≤ 1
+        → IsBegun hash run walk → place_of walk ≡ 1
         → ArrivesBack walk Begin
-    back-begun walk few begun place_is =
-        of-end walk Begin
+    back-begun walk came few begun place_is =
+        of-end walk Begin came
         (arrives-first (last_stop (cause_back run stops step end) end) walk
         (last-none (cause_back run stops step end) end
         (λ at late before. absurd (omega (arith, late, before, few)))) begun place_is)
 
     -- none has a cause
-    pub back-none : (walk : Walk D) (begin : ℕ) → begin ≡ 0
+    pub back-none : (walk : Walk D) (begin : ℕ) → HaveCome 0 left left_new → begin ≡ 0
         → NoneBehind run stops step end begin → IsBegun hash run walk → place_of walk ≡ 1
         → ArrivesBack walk Begin
-    back-none walk begin none_left none begun place_is =
-        of-end walk Begin
+    back-none walk begin came none_left none begun place_is =
+        of-end walk Begin came
         (arrives-first (last_stop (cause_back run stops step end) end) walk
         (found-none run stops step end
         (subst (NoneBehind run stops step end) none_left none)) begun place_is)
 
     -- the last with a cause
-    pub back-found : (walk : Walk D) (begin last place : ℕ) (stop : Stop) → end ≤ most_steps
-        → last < end
+    pub back-found : (walk : Walk D) (begin last place : ℕ) (stop : Stop)
+        → HaveCome 0 left left_new → end ≤ most_steps → last < end
         → IsLastBehind (cause_back run stops step end) begin last (Some (place, stop))
         → NoneBehind run stops step end last → IsAt hash run place walk
         → ArrivesBack walk stop
-    back-found walk begin last place stop within before piece none at =
-        of-end walk stop
+    back-found walk begin last place stop came within before piece none at =
+        of-end walk stop came
         (arrives-there (last_stop (cause_back run stops step end) end) walk place stop
         (found-last run stops step end begin last (place, stop) before piece none) at
         (omega (arith, piece.1, before, within))

@@ -7,8 +7,8 @@ use Rattle.bus_signals.specs.{declared.{kind.Kind.{Kind, TheVariants.Idle}, rule
 use Rattle.part_definitions.specs.CpuRegister.{pc_of}
 use Rattle.debug_session.specs.{Request.most_steps, declared.{command.Way.TheVariants.{Ahead, Back}, stop.Stop.{Stop, TheVariants.Begin}, watch.Hit.Hit}, Stops.Stops, Watched.last_hit, Cause.{Step, ahead, begins_within, behind, boots, cause, hit_on, hits, is_plain, is_within, refusal, refusal_or, steps_over, stop_of}, Going.{Standing, last_stop}, Place.{Run, sight_at, view_of}, Sight.{Sight, View}}
 use Rattle.debug_session.proofs.{Scans.{last-at, last-none}, Stretches.ahead-behind, Views.view-at}
-use Rattle.debug_walk.specs.{Passing.{IsPassed, Sleeps}, Walk.{IsStretch, first_refused}, declared.stretch.Stretch.Stretch}
-use Rattle.device_debug.specs.{Back.{IsLastBehind, stop_with_place, seek_back}, Seek.steps_by}
+use Rattle.debug_walk.specs.{Passing.{IsSilent, Sleeps}, Walk.{IsStretch, first_refused}, declared.stretch.Stretch.Stretch}
+use Rattle.device_debug.specs.{Back.{IsLastBehind, stop_with_place, seek_back}, Seek.{cause_before, steps_by}}
 
 -- the last place with a cause, of those behind a place and before another one
 module _ (cause : ℕ → Option Stop) (begin : ℕ) where
@@ -52,8 +52,12 @@ module _ (cause : ℕ → Option Stop) (begin : ℕ) where
       → IsLastBehind cause begin last found
   covers-all until last None past early covers =
       λ at after within. covers at after (omega (arith, within, past))
-  covers-all until last (Some found) past early covers =
-      (covers.0, early, covers.2, λ at after within. covers.3 at after (omega (arith, within, past)))
+  covers-all until last (Some found) past early covers = (
+    covers.0,
+    early,
+    covers.2,
+    λ at after within. covers.3 at after (omega (arith, within, past)),
+  )
 
   pub covers-none : Covers begin None
   covers-none = λ at after before. absurd (omega (arith, after, before))
@@ -124,7 +128,8 @@ module _ (run : Run) (stops : Stops) (step : Option Step) (from : ℕ) where
 
   refused-told : (sights : List Sight) → refusal_or (first_refused sights) None ≡ refusal sights
   refused-told [] = refl
-  refused-told (sight ∷ sights) = refused-more sight.next.refused (first_refused sights) (refusal sights) (refused-told sights)
+  refused-told (sight ∷ sights) =
+      refused-more sight.next.refused (first_refused sights) (refusal sights) (refused-told sights)
 
   -- what is kept of a stretch is what a step goes over
   steps-same : (one : Option Step) (stretch : Stretch) (here : Sight) (between : List Sight)
@@ -136,11 +141,6 @@ module _ (run : Run) (stops : Stops) (step : Option Step) (from : ℕ) where
   steps-same (Some one) stretch here between begins boot =
       λ i. (boot i || begins one.highest i) && not (is_within one (pc_of here.registers))
 
-  abbrev pub cause_kept : Bool → Sight → Stretch → Option Stop
-  cause_kept plain here stretch =
-      stop_of stretch.last_hit plain (steps_by step stretch (pc_of here.registers))
-      (refusal_or stretch.refused None)
-
   -- so the cause at a boundary is what was kept of the steps up to the next one
   pub cause-behind : (here until : ℕ) (stretch : Stretch) (plain : Bool)
       → (view here).boundary ≡ true → here < until → until ≤ from
@@ -148,7 +148,7 @@ module _ (run : Run) (stops : Stops) (step : Option Step) (from : ℕ) where
       → (until ≡ from) ⊎ ((view until).boundary ≡ true)
       → plain ≡ plain_at here
       → IsStretch stops.watches run until stretch
-      → cause_back here ≡ cause_kept plain (view here) stretch
+      → cause_back here ≡ cause_before step stretch plain (pc_of (view here).registers)
   cause-behind here until stretch plain settled before within none ends is kept =
       let way : List Sight = behind view until in
       let count : from ≡ from - here + here = omega (arith, before, within) in
@@ -162,10 +162,11 @@ module _ (run : Run) (stops : Stops) (step : Option Step) (from : ℕ) where
       (steps-same step stretch (view here) way kept.begins kept.boot i)
       ((ap (λ (rule : Option Rule). refusal_or rule None) kept.refused ∙ refused-told way) i))
 
-  pub passed-none : (at : ℕ) → at < from → from ≤ most_steps → IsPassed stops true run at
+  -- where the processor sleeps up to the next boundary there is none
+  pub asleep-none : (at : ℕ) → at < from → from ≤ most_steps → Sleeps run at → IsSilent run at
+      → hits stops.watches (behind view (suc at)) ≡ [] → plain_at at ≡ false
       → cause_back at ≡ None
-  passed-none at before within passed =
-      let sleeps : Sleeps run at = passed.sleeps refl in
+  asleep-none at before within sleeps silent met plain =
       let here : sight_at run at ≡ view at = sym (view-at run at (omega (arith, before, within))) in
       let next : sight_at run (suc at) ≡ view (suc at) =
       sym (view-at run (suc at) (omega (arith, before, within))) in
@@ -175,17 +176,13 @@ module _ (run : Run) (stops : Stops) (step : Option Step) (from : ℕ) where
       subst (λ (one : Sight). one.boundary ≡ true) next sleeps.to in
       let idle : (view at).next.kind ≡ Idle =
       subst (λ (one : Sight). one.next.kind ≡ Idle) here sleeps.idle in
-      let unhit : (view at).next.hits stops.watches ≡ [] =
-      subst (λ (one : Sight). one.next.hits stops.watches ≡ []) here passed.unhit in
       let unrefused : (view at).next.refused ≡ None =
-      subst (λ (one : Sight). one.next.refused ≡ None) here passed.silent.unrefused in
-      let plain : plain_at at ≡ false =
-      plain-none (view at).boundary (plain_at at)
-      (subst
-      (λ (one : Sight).
-      (one.boundary && is_plain stops one (at - length (behind view at)) at) ≡ false)
-      here passed.plain)
-      settled in
+      subst (λ (one : Sight). one.next.refused ≡ None) here silent.unrefused in
+      let alone : behind view (suc at) ≡ view at ∷ [] =
+      ap (λ (sights : List Sight). sights ++ view at ∷ [])
+      (cond-true (view at).boundary [] (behind view at) settled) in
+      let unhit : hits stops.watches (view at ∷ []) ≡ [] =
+      ap (hits stops.watches) (sym alone) ∙ met in
       let steps : ℕ = from - suc at in
       let count : from - at ≡ suc steps = omega (arith, before) in
       let all : ahead view at (from - at) ≡ view at ∷ [] =
@@ -193,8 +190,8 @@ module _ (run : Run) (stops : Stops) (step : Option Step) (from : ℕ) where
       ∙ ap (λ (later : List Sight). view at ∷ later)
       (cond-true (view (suc at)).boundary [] (ahead view (suc at) steps) ends) in
       cause-ahead at (view at ∷ []) settled all
-      ∙ (λ i. stop_of (last_hit None (unhit i ++ [])) (plain i) (idle-over step (view at) (view at) idle i)
-      (refusal_or (unrefused i) None))
+      ∙ (λ i. stop_of (last_hit None (unhit i)) (plain i)
+      (idle-over step (view at) (view at) idle i) (refusal_or (unrefused i) None))
 
   -- the pieces of the way, joined
   abbrev pub NoneBehind : ℕ → Type 0
@@ -216,4 +213,5 @@ module _ (run : Run) (stops : Stops) (step : Option Step) (from : ℕ) where
       (λ (within : at ≤ last). piece.3 at past within) (cases_lt last at))
 
   pub found-none : NoneBehind 0 → last_stop cause_back from ≡ record { place = 1; stop = Begin }
-  found-none none = last-none cause_back from (λ at late before. none at (omega (arith, late)) before)
+  found-none none =
+      last-none cause_back from (λ at late before. none at (omega (arith, late)) before)

@@ -12,8 +12,9 @@ use Rattle.debug_link.specs.{Console.console, Writing.{HasPut, PacketSink, PutsP
 use Rattle.debug_link.proofs.Bodies.{put_both, put_none, puts_behind, puts_failed, puts_less}
 use Rattle.debug_session.proofs.{Scans.first-past, Views.{next-at, view-at}}
 use Rattle.debug_walk.specs.{Copies.IsAt, Passing.{ArePassed, AreSilent, IsSilent}, Walk.{TellsCause, Walks, place_of}, declared.walk.Walk.Walk}
-use Rattle.device_debug.specs.{Ahead.{both_of, is_asked, last_boundary, refused_at, seek_ahead}, Going.{GoesOn, HasArrived, StandsAt}, GrownText.GrownText, Telling.{TellsStep, bodies_of, step_bodies}}
-use Rattle.device_debug.proofs.{Ahead.{IsClear, TellsAhead, at-boundary, cause_at, cause_by, none-at, stops-before-refusal, stops-here, stops-nowhere, tells-ahead, told_at}, Back.{idle-over, plain-none}, Interrupted.interrupted-at, Kept.exact-tells, RefusalText.puts-none, Unasked.unasked-none, Told.{IsPut, IsTold, put-here, put-step, put-until, told-both, told-first, told-on, told-step}}
+use Rattle.debug_walk.proofs.Views.{some-same}
+use Rattle.device_debug.specs.{Ahead.{both_of, last_boundary, refused_at, seek_ahead}, Going.{GoesOn, HasArrived, StandsAt, StopsBefore}, GrownText.GrownText, Telling.{TellsStep, bodies_of, step_bodies}}
+use Rattle.device_debug.proofs.{Ahead.{IsClear, TellsAhead, at-boundary, cause_at, cause_by, none-at, stops-before-refusal, stops-here, stops-nowhere, tells-ahead, told_at}, Back.{idle-over, plain-none}, Interrupted.interrupted-at, Kept.exact-tells, RefusalText.puts-none, Told.{IsPut, IsTold, put-here, put-step, put-until, told-both, told-first, told-on, told-step}}
 
 both-parts : (last : Option ℕ) (told : Option Rule) (at : ℕ) (rule : Rule)
     → both_of last told ≡ Some (at, rule) → (last ≡ Some at) × (told ≡ Some rule)
@@ -53,6 +54,10 @@ by-cause : (here : Bool) (hit : Option Hit) (plain over : Bool) (stop : Stop)
     → (if here then stop_of hit plain over None else None) ≡ Some stop → NoRefusal stop
 by-cause true hit plain over stop is = no-refusal hit plain over stop is
 by-cause false hit plain over stop is = absurd (cc (is))
+
+-- the step that led to the place of a walk
+abbrev pub step_before : {D : Type 0} → Walk D → ℕ
+step_before walk = place_of walk - 1
 
 -- it went on from a place to the first stop
 abbrev pub GoesFrom : {D W : Type 0} → Hash D → sink.Ghosts W → Run → Stops → Option Step
@@ -274,37 +279,87 @@ module _ {D W : Type 0} (hash : Hash D) (w : sink.Ghosts W) (run : Run) (stops :
             (subst (λ (bodies : List (List ℕ)). PutsPackets {V = V} w mid new bodies (Err error))
             (going.told.waits ∙ ap (told_lines view so.at) count) puts)).prefix)
 
-    -- behind a step, or more where nothing is asked: what it tells, and whether it was refused, is
-    -- not yet looked at
+    -- behind a row: what its last step tells, and whether it was refused, is not yet looked at
     pub record HasPassed (old now : PacketSink W) (walk : Walk D) (waiting : List GrownText)
         : Type 0 where
       pub walks : Walks hash run walk
-      pub last : ℕ
-      pub place_is : place_of walk ≡ suc last
-      pub since : from ≤ last
-      pub before : last < most_steps
+      pub place_is : place_of walk ≡ suc (step_before walk)
+      pub since : from ≤ step_before walk
+      pub before : step_before walk < most_steps
       pub tells : TellsCause stops (is_some step) run (place_of walk) walk.stretch
-      pub clear : IsClear view stops step from (suc last) last
+      pub clear : IsClear view stops step from (suc (step_before walk)) (step_before walk)
       pub put : List (List ℕ)
-      pub told : IsTold view from last waiting put
+      pub told : IsTold view from (step_before walk) waiting put
       pub has_put : HasPut w old now put
 
-    -- where nothing is asked there is no cause
+    -- no place that a row goes over has a cause
+    module _ (walk next : Walk D)
+        (within : place_of next ≤ most_steps)
+        (passed : ArePassed stops (is_some step) run (place_of walk) (place_of next))
+      where
+        view-there : (at : ℕ) → at < place_of next → sight_at run at ≡ view at
+        view-there at before = sym (view-at run at (omega (arith, before, within)))
+
+        -- where each instruction counts the processor slept
+        over-none : (one : Option Step) (at : ℕ) → is_some one ≡ is_some step
+            → place_of walk < at → at < place_of next
+            → steps_over one (view at) (behind view at) ≡ false
+        over-none None at same after before = refl
+        over-none (Some one) at same after before =
+            let earlier : ℕ = at - 1 in
+            let next_is : at ≡ suc earlier = omega (arith, after) in
+            let slept = (passed at after before).slept (sym same) earlier next_is in
+            let there = view-there earlier (omega (arith, after, before)) in
+            let here : (view earlier).boundary ≡ true =
+            subst (λ (sight : Sight). sight.boundary ≡ true) there slept.from in
+            let idle : (view earlier).next.kind ≡ Idle =
+            subst (λ (sight : Sight). sight.next.kind ≡ Idle) there slept.idle in
+            let alone : behind view at ≡ view earlier ∷ [] =
+            ap (behind view) next_is
+            ∙ ap (λ (sights : List Sight). sights ++ view earlier ∷ [])
+            (cond-true (view earlier).boundary [] (behind view earlier) here) in
+            ap (steps_over (Some one) (view at)) alone
+            ∙ idle-over (Some one) (view at) (view earlier) idle
+
+        pub none-over : (at : ℕ) → place_of walk < at → at < place_of next
+            → cause_by view stops step from at ≡ None
+        none-over at after before =
+            let one = passed at after before in
+            let unmet : hit_on Ahead (hits stops.watches (behind view at)) ≡ None =
+            ap (λ (met : List Hit). hit_on Ahead met) one.met in
+            ⊎_elim
+            (λ (here : (view at).boundary ≡ true).
+            let plain : is_plain stops (view at) (at - length (behind view at)) at ≡ false =
+            plain-none (view at).boundary
+            (is_plain stops (view at) (at - length (behind view at)) at)
+            (subst
+            (λ (sight : Sight).
+            (sight.boundary && is_plain stops sight (at - length (behind view at)) at) ≡ false)
+            (view-there at before) one.plain)
+            here in
+            cond-true (view at).boundary
+            (stop_of (hit_on Ahead (hits stops.watches (behind view at)))
+            (is_plain stops (view at) (at - length (behind view at)) at)
+            (steps_over step (view at) (behind view at)) None) None here
+            ∙ (λ i. stop_of (unmet i) (plain i) (over-none step at refl after before i) None))
+            (λ (none : (view at).boundary ≡ false).
+            cond-false (view at).boundary
+            (stop_of (hit_on Ahead (hits stops.watches (behind view at)))
+            (is_plain stops (view at) (at - length (behind view at)) at)
+            (steps_over step (view at) (behind view at)) None) None none)
+            (cases_Bool (view at).boundary)
+
     module _ (old mid : PacketSink W) (walk next : Walk D) (waiting : List GrownText)
         (going : IsGoing old mid walk waiting)
-        (none : is_asked stops step ≡ false → (at : ℕ) → at ≤ most_steps
+        (none : (at : ℕ) → place_of walk < at → at < place_of next
         → cause_by view stops step from at ≡ None)
         (walks : Walks hash run next)
         (gone : (place_of walk < place_of next) × (place_of next ≤ most_steps))
         (silent : AreSilent run (place_of walk) (place_of next - 1))
-        (unasked : (is_asked stops step ≡ false) ⊎ (place_of next ≡ place_of walk + 1))
         (waits : (waiting ≡ []) ⊎ (place_of next ≡ place_of walk + 1))
         (tells : TellsCause stops (is_some step) run (place_of next) next.stretch)
       where
-        abbrev last_step : ℕ
-        last_step = place_of next - 1
-
-        silent-view : (at : ℕ) → place_of walk ≤ at → at < last_step
+        silent-view : (at : ℕ) → place_of walk ≤ at → at < step_before next
             → ((view at).next.refused ≡ None) × ((view at).next.lines ≡ [])
         silent-view at after before =
             let here : sight_at run at ≡ view at =
@@ -314,17 +369,13 @@ module _ {D W : Type 0} (hash : Hash D) (w : sink.Ghosts W) (run : Run) (stops :
               subst (λ (sight : Sight). sight.next.lines ≡ []) here one.lines,
             )
 
-        clear-on : IsClear view stops step from (suc last_step) last_step
+        clear-on : IsClear view stops step from (suc (step_before next)) (step_before next)
         clear-on =
             record {
               here = λ at past before. ⊎_elim
                   (λ (less : at < suc (place_of walk)). going.clear.here at past less)
-                  (λ (over : suc (place_of walk) ≤ at). ⊎_elim
-                  (λ (is : is_asked stops step ≡ false).
-                  none is at (omega (arith, before, gone)))
-                  (λ (one : place_of next ≡ place_of walk + 1).
-                  absurd (omega (arith, one, over, before)))
-                  unasked)
+                  (λ (over : suc (place_of walk) ≤ at).
+                  none at (omega (arith, over)) (omega (arith, before, gone)))
                   (cases_lt at (suc (place_of walk)));
               unrefused = λ one rule later before told. ⊎_elim
                   (λ (less : one < place_of walk). going.clear.unrefused one rule later less told)
@@ -335,19 +386,19 @@ module _ {D W : Type 0} (hash : Hash D) (w : sink.Ghosts W) (run : Run) (stops :
                   (cases_lt one (place_of walk));
             }
 
-        told-there : IsTold view from last_step waiting going.put
+        told-there : IsTold view from (step_before next) waiting going.put
         told-there =
             ⊎_elim
             (λ (empty : waiting ≡ []).
-            subst (λ (texts : List GrownText). IsTold view from last_step texts going.put)
+            subst (λ (texts : List GrownText). IsTold view from (step_before next) texts going.put)
             (sym empty)
-            (told-on view from (last_step - place_of walk) (place_of walk) last_step going.put
-            (omega (arith, gone.0))
+            (told-on view from (step_before next - place_of walk) (place_of walk)
+            (step_before next) going.put (omega (arith, gone.0))
             (subst (λ (texts : List GrownText). IsTold view from (place_of walk) texts going.put)
             empty going.told)
             (λ at after before. (silent-view at after before).1)))
             (λ (one : place_of next ≡ place_of walk + 1).
-            let same : place_of walk ≡ last_step = omega (arith, one) in
+            let same : place_of walk ≡ step_before next = omega (arith, one) in
             subst (λ (at : ℕ). IsTold view from at waiting going.put) same going.told)
             waits
 
@@ -355,7 +406,6 @@ module _ {D W : Type 0} (hash : Hash D) (w : sink.Ghosts W) (run : Run) (stops :
         passes =
             record {
               walks = walks;
-              last = last_step;
               place_is = omega (arith, gone.0);
               since = omega (arith, gone.0, going.since);
               before = omega (arith, gone);
@@ -366,7 +416,7 @@ module _ {D W : Type 0} (hash : Hash D) (w : sink.Ghosts W) (run : Run) (stops :
               has_put = going.has_put;
             }
 
-    -- it went on to before such an end
+    -- it went on by a row that ends here at the latest
     pub passes-on : (old mid : PacketSink W) (walk next : Walk D) (waiting : List GrownText)
         (end : ℕ)
         → IsGoing old mid walk waiting → place_of walk < most_steps
@@ -374,16 +424,17 @@ module _ {D W : Type 0} (hash : Hash D) (w : sink.Ghosts W) (run : Run) (stops :
         → Walks hash run next
         → (place_of walk < place_of next) × (place_of next ≤ end)
         → AreSilent run (place_of walk) (place_of next - 1)
-        → (is_asked stops step ≡ false) ⊎ (place_of next ≡ place_of walk + 1)
         → (((sight_at run (place_of walk)).boundary ≡ true)
         ⊎ TellsCause stops (is_some step) run (place_of walk) walk.stretch
         → TellsCause stops (is_some step) run (place_of next) next.stretch)
+        → (((sight_at run (place_of walk)).boundary ≡ true)
+        ⊎ TellsCause stops (is_some step) run (place_of walk) walk.stretch
+        → ArePassed stops (is_some step) run (place_of walk) (place_of next))
         → HasPassed old mid next waiting
-    passes-on old mid walk next waiting end going less waits within walks gone silent unasked
-        tells =
+    passes-on old mid walk next waiting end going less waits within walks gone silent tells passed =
+        let last : place_of next ≤ most_steps = omega (arith, gone, within) in
         passes old mid walk next waiting going
-        (λ is at early. unasked-none run stops step from at is) walks
-        (gone.0, omega (arith, gone.1, within)) silent unasked
+        (none-over walk next last (passed (going.tells less))) walks (gone.0, last) silent
         (⊎_elim (λ (empty : waiting ≡ []). inl empty)
         (λ (one : end ≡ place_of walk + 1). inr (omega (arith, one, gone))) waits)
         (tells (going.tells less))
@@ -400,10 +451,13 @@ module _ {D W : Type 0} (hash : Hash D) (w : sink.Ghosts W) (run : Run) (stops :
     module _ (old mid : PacketSink W) (walk : Walk D) (waiting : List GrownText)
         (passed : HasPassed old mid walk waiting)
       where
+        abbrev last_step : ℕ
+        last_step = step_before walk
+
         passed-aim : passed.told.so_far.at ≤ aim.place
         passed-aim =
             let so = passed.told.so_far in
-            aim-past (suc passed.last) passed.last so.at passed.clear (omega (arith, so.at_place))
+            aim-past (suc last_step) last_step so.at passed.clear (omega (arith, so.at_place))
             so.at_place (omega (arith, so.at_place, passed.before)) so.settled
 
         -- it failed to look for a boundary before
@@ -411,26 +465,26 @@ module _ {D W : Type 0} (hash : Hash D) (w : sink.Ghosts W) (run : Run) (stops :
             → GoesOn hash w old mid run from aim result
         look-failed result failed =
             let so = passed.told.so_far in
-            fails passed.last passed.put so passed-aim old mid mid result failed passed.has_put
-            (puts-none w mid (rest passed.last passed.put so passed-aim) result failed)
+            fails last_step passed.put so passed-aim old mid mid result failed passed.has_put
+            (puts-none w mid (rest last_step passed.put so passed-aim) result failed)
 
         -- the step was refused, and it stops before
         module _ (at : ℕ) (rule : Rule)
-            (found : refused_at view from passed.last ≡ Some (at, rule))
+            (found : refused_at view from last_step ≡ Some (at, rule))
           where
-            parts : (last_boundary view from passed.last ≡ Some at)
-                × (told_at view from passed.last ≡ Some rule)
+            parts : (last_boundary view from last_step ≡ Some at)
+                × (told_at view from last_step ≡ Some rule)
             parts =
-                both-parts (last_boundary view from passed.last) (told_at view from passed.last) at
+                both-parts (last_boundary view from last_step) (told_at view from last_step) at
                 rule found
 
-            ahead-of : TellsAhead view from at most_steps passed.last rule
+            ahead-of : TellsAhead view from at most_steps last_step rule
             ahead-of =
-                tells-ahead view from passed.last at most_steps rule passed.before parts.0 parts.1
+                tells-ahead view from last_step at most_steps rule passed.before parts.0 parts.1
 
             pub aim-refused : aim ≡ record { place = at; stop = Refused rule }
             aim-refused =
-                stops-before-refusal view stops step from passed.last at rule passed.before
+                stops-before-refusal view stops step from last_step at rule passed.before
                 passed.clear parts.1 parts.0
 
             pub boundary-there : (view at).boundary ≡ true
@@ -440,7 +494,7 @@ module _ {D W : Type 0} (hash : Hash D) (w : sink.Ghosts W) (run : Run) (stops :
             before-most = omega (arith, ahead-of.from_here, passed.before)
 
             refusal_text : List (List ℕ)
-            refusal_text = console (codes "stops before " ++ reset_line passed.last rule)
+            refusal_text = console (codes "stops before " ++ reset_line last_step rule)
 
             lines-refused : lines aim ≡ passed.put ++ refusal_text
             unfolding refusal_text
@@ -449,7 +503,7 @@ module _ {D W : Type 0} (hash : Hash D) (w : sink.Ghosts W) (run : Run) (stops :
                 ∙ ap (λ (front : List (List ℕ)).
                 front ++ console (codes "stops before "
                 ++ reset_line (refused_step view at (most_steps - at)) rule))
-                (sym (put-until view from passed.last at passed.put passed.told.so_far
+                (sym (put-until view from last_step at passed.put passed.told.so_far
                 ahead-of.past ahead-of.from_here ahead-of.settled ahead-of.none_since))
                 ∙ ap (λ (number : ℕ).
                 passed.put ++ console (codes "stops before " ++ reset_line number rule))
@@ -458,7 +512,7 @@ module _ {D W : Type 0} (hash : Hash D) (w : sink.Ghosts W) (run : Run) (stops :
             pub refusal-fails : {V E : Type 0} (new : PacketSink W) (error : E)
                 (result : Result (Walk D × Stop) AnswerFault) → IsErr result
                 → PutsPackets {V = V} w mid new
-                (console (codes "stops before " ++ reset_line passed.last rule)) (Err error)
+                (console (codes "stops before " ++ reset_line last_step rule)) (Err error)
                 → GoesOn hash w old new run from aim result
             unfolding refusal_text
             refusal-fails {V} new error (Ok value) failed puts = absurd (false≢true failed)
@@ -475,36 +529,17 @@ module _ {D W : Type 0} (hash : Hash D) (w : sink.Ghosts W) (run : Run) (stops :
 
             all-put : {V E : Type 0} (new : PacketSink W) (value : V)
                 → PutsPackets {E = E} w mid new
-                (console (codes "stops before " ++ reset_line passed.last rule)) (Ok value)
+                (console (codes "stops before " ++ reset_line last_step rule)) (Ok value)
                 → HasPut w old new (lines aim)
             unfolding refusal_text
             all-put new value puts =
                 subst (HasPut w old new) (sym lines-refused)
                 (put_both w old mid new passed.put refusal_text passed.has_put puts.all)
 
-            pub walk-fails : {V E : Type 0} (new : PacketSink W) (value : V)
-                (result : Result (Walk D × Stop) AnswerFault) → IsErr result
-                → PutsPackets {E = E} w mid new
-                (console (codes "stops before " ++ reset_line passed.last rule)) (Ok value)
-                → GoesOn hash w old new run from aim result
-            walk-fails new value (Ok end) failed puts = absurd (false≢true failed)
-            walk-fails {V} {E} new value (Err fault) failed puts =
-                record {
-                  arrived = tt;
-                  put = tt;
-                  prefix = (subst
-                      (λ (bodies : List (List ℕ)).
-                      PutsPackets {V = Walk D × Stop} w old new bodies (Err fault))
-                      (append-nil (lines aim))
-                      (puts_behind w old new new (lines aim) [] (Err fault)
-                      (all-put {V = V} {E = E} new value puts)
-                      (puts-none w new [] (Err fault) failed))).prefix;
-                }
-
             pub stops-before : {V E : Type 0} (new : PacketSink W) (value : V) (end : Walk D)
                 → IsAt hash run at end
                 → PutsPackets {E = E} w mid new
-                (console (codes "stops before " ++ reset_line passed.last rule)) (Ok value)
+                (console (codes "stops before " ++ reset_line last_step rule)) (Ok value)
                 → GoesOn hash w old new run from aim (Ok (end, Refused rule))
             stops-before {V} {E} new value end there puts =
                 let settled : (sight_at run at).boundary ≡ true =
@@ -527,68 +562,101 @@ module _ {D W : Type 0} (hash : Hash D) (w : sink.Ghosts W) (run : Run) (stops :
                   prefix = tt;
                 }
 
+        -- so by what is told of it
+        pub before-fails : (new : PacketSink W) (found : Option (ℕ × Rule)) (error : AnswerFault)
+            (result : Result (Walk D × Stop) AnswerFault)
+            → refused_at view from last_step ≡ found → IsErr result
+            → StopsBefore hash w mid new run last_step found (Err error)
+            → GoesOn hash w old new run from aim result
+        before-fails new None error result is failed stops =
+            subst (λ (after : PacketSink W). GoesOn hash w old after run from aim result)
+            (sym stops.0) (look-failed result failed)
+        before-fails new (Some found) error result is failed stops =
+            refusal-fails found.0 found.1 is new error result failed
+            stops.0
+
+        pub before-stops : (new : PacketSink W) (found : Option (ℕ × Rule))
+            (stopped : Walk D × Stop)
+            → refused_at view from last_step ≡ found
+            → StopsBefore hash w mid new run last_step found (Ok (Some stopped))
+            → GoesOn hash w old new run from aim (Ok stopped)
+        before-stops new None stopped is stops = absurd (cc (stops.1))
+        before-stops new (Some found) stopped is stops =
+            let (walk, at, same) = stops.1 in
+            subst
+            (λ (one : Walk D × Stop). GoesOn hash w old new run from aim (Ok one))
+            (sym (some-same same))
+            (stops-before found.0 found.1 is new (Some stopped) walk at stops.0)
+
+        pub before-none : (new : PacketSink W) (found : Option (ℕ × Rule))
+            → StopsBefore hash w mid new run last_step found (Ok None)
+            → (found ≡ None) × (new ≡ mid)
+        before-none new None stops = (refl, stops.0)
+        before-none new (Some found) stops =
+            let (walk, at, same) = stops.1 in absurd (cc (same))
+
         -- it was not
-        module _ (found : refused_at view from passed.last ≡ None) where
-          clear-behind : IsClear view stops step from (suc passed.last) (suc passed.last)
+        module _ (found : refused_at view from last_step ≡ None) where
+          clear-behind : IsClear view stops step from (suc last_step) (suc last_step)
           clear-behind =
               record {
                 here = passed.clear.here;
                 unrefused = λ one rule later before told. ⊎_elim
-                    (λ (less : one < passed.last).
+                    (λ (less : one < last_step).
                     passed.clear.unrefused one rule later less told)
-                    (λ (over : passed.last ≤ one).
-                    let same : passed.last ≡ one = omega (arith, over, before) in
+                    (λ (over : last_step ≤ one).
+                    let same : last_step ≡ one = omega (arith, over, before) in
                     subst (λ (at : ℕ). last_boundary view from at ≡ None) same
-                    (both-none (last_boundary view from passed.last)
-                    (told_at view from passed.last) rule found
+                    (both-none (last_boundary view from last_step)
+                    (told_at view from last_step) rule found
                     (subst (λ (at : ℕ). told_at view from at ≡ Some rule) (sym same) told)))
-                    (cases_lt one passed.last);
+                    (cases_lt one last_step);
               }
 
-          step-is : step_bodies run passed.last ≡ console (view passed.last).next.lines
+          step-is : step_bodies run last_step ≡ console (view last_step).next.lines
           step-is =
               ap (λ (one : StepSight). console one.lines)
-              (sym (next-at run passed.last passed.before))
+              (sym (next-at run last_step passed.before))
 
-          boundary-is : (here : Bool) → (sight_at run (suc passed.last)).boundary ≡ here
-              → (view (suc passed.last)).boundary ≡ here
+          boundary-is : (here : Bool) → (sight_at run (suc last_step)).boundary ≡ here
+              → (view (suc last_step)).boundary ≡ here
           boundary-is here is =
               ap (λ (sight : Sight). sight.boundary)
-              (view-at run (suc passed.last) (omega (arith, passed.before)))
+              (view-at run (suc last_step) (omega (arith, passed.before)))
               ∙ is
 
-          boundary-was : (here : Bool) → (view (suc passed.last)).boundary ≡ here
-              → (sight_at run (suc passed.last)).boundary ≡ here
+          boundary-was : (here : Bool) → (view (suc last_step)).boundary ≡ here
+              → (sight_at run (suc last_step)).boundary ≡ here
           boundary-was here is =
               ap (λ (sight : Sight). sight.boundary)
-              (sym (view-at run (suc passed.last) (omega (arith, passed.before))))
+              (sym (view-at run (suc last_step) (omega (arith, passed.before))))
               ∙ is
 
           module _ {V E : Type 0} (new : PacketSink W) (waiting_new : List GrownText)
               (result : Result V E)
-              (told : TellsStep w mid new waiting waiting_new run passed.last result)
+              (told : TellsStep w mid new waiting waiting_new run last_step result)
             where
               whole : told.put ++ told.later
-                  ≡ bodies_of waiting ++ console (view passed.last).next.lines
+                  ≡ bodies_of waiting ++ console (view last_step).next.lines
               whole =
                   told.whole ∙ ap (λ (own : List (List ℕ)). bodies_of waiting ++ own) step-is
 
-              so-put : IsPut view from (suc passed.last) (passed.put ++ told.put)
+              so-put : IsPut view from (suc last_step) (passed.put ++ told.put)
               so-put =
-                  put-step view from passed.last waiting passed.put told.put told.later passed.told
+                  put-step view from last_step waiting passed.put told.put told.later passed.told
                   whole (λ here. told.none_waits (boundary-was true here))
                   (λ none. told.none_put (boundary-was false none))
 
               not-past : so-put.at ≤ aim.place
               not-past =
-                  aim-past (suc passed.last) (suc passed.last) so-put.at clear-behind
+                  aim-past (suc last_step) (suc last_step) so-put.at clear-behind
                   so-put.at_place so-put.at_place (omega (arith, so-put.at_place, passed.before))
                   so-put.settled
 
           -- the lines could not be told
           pub tell-failed : {V E : Type 0} (new : PacketSink W) (waiting_new : List GrownText)
               (error : E) (result : Result (Walk D × Stop) AnswerFault) → IsErr result
-              → TellsStep {V = V} w mid new waiting waiting_new run passed.last (Err error)
+              → TellsStep {V = V} w mid new waiting waiting_new run last_step (Err error)
               → GoesOn hash w old new run from aim result
           unfolding rest
           tell-failed new waiting_new error (Ok value) failed is = absurd (false≢true failed)
@@ -598,7 +666,8 @@ module _ {D W : Type 0} (hash : Hash D) (w : sink.Ghosts W) (run : Run) (stops :
               let more : List (List ℕ) =
               told_lines view so.at (aim.place - so.at)
               ++ refusal_warning view aim.place aim.stop in
-              let behind : PutsPackets {V = V} w old new (passed.put ++ lines_told.put) (Err error) =
+              let behind
+              : PutsPackets {V = V} w old new (passed.put ++ lines_told.put) (Err error) =
               puts_behind w old mid new passed.put lines_told.put (Err error) passed.has_put
               (record { all = tt; prefix = lines_told.prefix }) in
               record {
@@ -606,16 +675,16 @@ module _ {D W : Type 0} (hash : Hash D) (w : sink.Ghosts W) (run : Run) (stops :
                 put = tt;
                 prefix = (subst
                     (λ (bodies : List (List ℕ)). PutsPackets {V = V} w old new bodies (Err error))
-                    (sym (all-lines (suc passed.last) (passed.put ++ lines_told.put) so early))
+                    (sym (all-lines (suc last_step) (passed.put ++ lines_told.put) so early))
                     (puts_less w old new (passed.put ++ lines_told.put) more error behind)).prefix;
               }
 
           module _ {V E : Type 0} (new : PacketSink W) (waiting_new : List GrownText) (value : V)
-              (told : TellsStep {E = E} w mid new waiting waiting_new run passed.last (Ok value))
+              (told : TellsStep {E = E} w mid new waiting waiting_new run last_step (Ok value))
             where
-              told-now : IsTold view from (suc passed.last) waiting_new (passed.put ++ told.put)
+              told-now : IsTold view from (suc last_step) waiting_new (passed.put ++ told.put)
               told-now =
-                  told-step view from passed.last waiting passed.put told.put told.later passed.told
+                  told-step view from last_step waiting passed.put told.put told.later passed.told
                   (whole new waiting_new (Ok value) told)
                   (λ here. told.none_waits (boundary-was true here))
                   (λ none. told.none_put (boundary-was false none)) waiting_new told.waits
@@ -625,10 +694,10 @@ module _ {D W : Type 0} (hash : Hash D) (w : sink.Ghosts W) (run : Run) (stops :
 
               -- it has to stop here
               pub stops-there : (stop : Stop)
-                  → cause_by view stops step from (suc passed.last) ≡ Some stop
+                  → cause_by view stops step from (suc last_step) ≡ Some stop
                   → GoesOn hash w old new run from aim (Ok (walk, stop))
               stops-there stop is =
-                  let place : ℕ = suc passed.last in
+                  let place : ℕ = suc last_step in
                   let stop_is : aim ≡ record { place = place; stop = stop } =
                   stops-here view stops step from place stop (omega (arith, passed.since))
                   (omega (arith, passed.before)) clear-behind is in
@@ -660,7 +729,7 @@ module _ {D W : Type 0} (hash : Hash D) (w : sink.Ghosts W) (run : Run) (stops :
                   })
 
               -- it goes on
-              pub goes-on : cause_by view stops step from (suc passed.last) ≡ None
+              pub goes-on : cause_by view stops step from (suc last_step) ≡ None
                   → IsGoing old new walk waiting_new
               goes-on none =
                   record {
@@ -673,12 +742,12 @@ module _ {D W : Type 0} (hash : Hash D) (w : sink.Ghosts W) (run : Run) (stops :
                         (sym passed.place_is)
                         (record {
                           here = λ at past before. ⊎_elim
-                              (λ (less : at < suc passed.last). passed.clear.here at past less)
-                              (λ (over : suc passed.last ≤ at).
-                              let same : suc passed.last ≡ at = omega (arith, over, before) in
+                              (λ (less : at < suc last_step). passed.clear.here at past less)
+                              (λ (over : suc last_step ≤ at).
+                              let same : suc last_step ≡ at = omega (arith, over, before) in
                               subst (λ (one : ℕ). cause_by view stops step from one ≡ None) same
                               none)
-                              (cases_lt at (suc passed.last));
+                              (cases_lt at (suc last_step));
                           unrefused = clear-behind.unrefused;
                         });
                     put = passed.put ++ told.put;
@@ -687,154 +756,3 @@ module _ {D W : Type 0} (hash : Hash D) (w : sink.Ghosts W) (run : Run) (stops :
                         (sym passed.place_is) told-now;
                     has_put = put-now;
                   }
-
-    -- behind steps in a row that were gone over
-    module _ (old mid : PacketSink W) (walk next : Walk D) (waiting : List GrownText)
-        (going : IsGoing old mid walk waiting) (past : from < place_of walk)
-        (walks : Walks hash run next)
-        (gone : (place_of walk ≤ place_of next) × (place_of next ≤ most_steps))
-        (passed : ArePassed stops (is_some step) run (place_of walk) (place_of next))
-        (waits : (waiting ≡ []) ⊎ (place_of next ≡ place_of walk))
-        (tells : TellsCause stops (is_some step) run (place_of next) next.stretch)
-      where
-        view-there : (at : ℕ) → at < place_of next → sight_at run at ≡ view at
-        view-there at before = sym (view-at run at (omega (arith, before, gone.1)))
-
-        -- where each instruction counts the processor slept
-        over-none : (one : Option Step) (at : ℕ) → is_some one ≡ is_some step
-            → place_of walk < at → at < place_of next
-            → steps_over one (view at) (behind view at) ≡ false
-        over-none None at same after before = refl
-        over-none (Some one) at same after before =
-            let earlier : ℕ = at - 1 in
-            let next_is : suc earlier ≡ at = omega (arith, after) in
-            let slept = (passed earlier (omega (arith, after)) (omega (arith, after, before))).sleeps
-            (sym same) in
-            let there = view-there earlier (omega (arith, after, before)) in
-            let here : (view earlier).boundary ≡ true =
-            subst (λ (sight : Sight). sight.boundary ≡ true) there slept.from in
-            let idle : (view earlier).next.kind ≡ Idle =
-            subst (λ (sight : Sight). sight.next.kind ≡ Idle) there slept.idle in
-            let alone : behind view at ≡ view earlier ∷ [] =
-            ap (behind view) (sym next_is)
-            ∙ ap (λ (sights : List Sight). sights ++ view earlier ∷ [])
-            (cond-true (view earlier).boundary [] (behind view earlier) here) in
-            ap (steps_over (Some one) (view at)) alone
-            ∙ idle-over (Some one) (view at) (view earlier) idle
-
-        none-over : (at : ℕ) → place_of walk < at → at < place_of next
-            → cause_by view stops step from at ≡ None
-        none-over at after before =
-            let one = passed at (omega (arith, after)) before in
-            let unmet : hit_on Ahead (hits stops.watches (behind view at)) ≡ None =
-            ap (λ (met : List Hit). hit_on Ahead met) one.met in
-            ⊎_elim
-            (λ (here : (view at).boundary ≡ true).
-            let plain : is_plain stops (view at) (at - length (behind view at)) at ≡ false =
-            plain-none (view at).boundary (is_plain stops (view at) (at - length (behind view at)) at)
-            (subst
-            (λ (sight : Sight).
-            (sight.boundary && is_plain stops sight (at - length (behind view at)) at) ≡ false)
-            (view-there at before) one.plain)
-            here in
-            cond-true (view at).boundary
-            (stop_of (hit_on Ahead (hits stops.watches (behind view at)))
-            (is_plain stops (view at) (at - length (behind view at)) at)
-            (steps_over step (view at) (behind view at)) None) None here
-            ∙ (λ i. stop_of (unmet i) (plain i) (over-none step at refl after before i) None))
-            (λ (none : (view at).boundary ≡ false).
-            cond-false (view at).boundary
-            (stop_of (hit_on Ahead (hits stops.watches (behind view at)))
-            (is_plain stops (view at) (at - length (behind view at)) at)
-            (steps_over step (view at) (behind view at)) None) None none)
-            (cases_Bool (view at).boundary)
-
-        clear-over : IsClear view stops step from (place_of next) (place_of next)
-        clear-over =
-            record {
-              here = λ at after before. ⊎_elim
-                  (λ (less : at < suc (place_of walk)). going.clear.here at after less)
-                  (λ (over : suc (place_of walk) ≤ at). none-over at over before)
-                  (cases_lt at (suc (place_of walk)));
-              unrefused = λ one rule later before told. ⊎_elim
-                  (λ (less : one < place_of walk). going.clear.unrefused one rule later less told)
-                  (λ (over : place_of walk ≤ one).
-                  absurd (cc (sym told
-                  ∙ ap (λ (refused : Option Rule). refusal_or refused None)
-                  (subst (λ (sight : Sight). sight.next.refused ≡ None) (view-there one before)
-                  (passed one over before).silent.unrefused))))
-                  (cases_lt one (place_of walk));
-            }
-
-        told-over : IsTold view from (place_of next) waiting going.put
-        told-over =
-            ⊎_elim
-            (λ (empty : waiting ≡ []).
-            subst (λ (texts : List GrownText). IsTold view from (place_of next) texts going.put)
-            (sym empty)
-            (told-on view from (place_of next - place_of walk) (place_of walk) (place_of next)
-            going.put (omega (arith, gone.0))
-            (subst (λ (texts : List GrownText). IsTold view from (place_of walk) texts going.put)
-            empty going.told)
-            (λ at after before.
-            subst (λ (sight : Sight). sight.next.lines ≡ []) (view-there at before)
-            (passed at after before).silent.lines)))
-            (λ (same : place_of next ≡ place_of walk).
-            subst (λ (at : ℕ). IsTold view from at waiting going.put) (sym same) going.told)
-            waits
-
-        pub stops-over : (stop : Stop)
-            → cause_by view stops step from (place_of next) ≡ Some stop
-            → GoesOn hash w old mid run from aim (Ok (next, stop))
-        stops-over stop is =
-            let place : ℕ = place_of next in
-            let late : from < place = omega (arith, past, gone.0) in
-            let stop_is : aim ≡ record { place = place; stop = stop } =
-            stops-here view stops step from place stop late gone.1 clear-over is in
-            let here : (view place).boundary ≡ true =
-            at-boundary (view place).boundary _ stop is in
-            let put : going.put ≡ told_to place =
-            put-here view from place going.put told-over.so_far here in
-            subst (λ (now : Standing). GoesOn hash w old mid run from now (Ok (next, stop)))
-            (sym stop_is)
-            (record {
-              arrived = record {
-                stands = record {
-                  walks = walks;
-                  place_is = refl;
-                  within = gone.1;
-                  settled = inl (inl (subst (λ (sight : Sight). sight.boundary ≡ true)
-                      (view-at run place gone.1) here));
-                };
-                stop_is = refl;
-              };
-              put = subst (HasPut w old mid)
-                  (put ∙ sym (append-nil (told_to place))
-                  ∙ ap (λ (end : List (List ℕ)). told_to place ++ end)
-                  (sym (no-warning view place stop
-                  (by-cause (view place).boundary _ _ _ stop is))))
-                  going.has_put;
-              prefix = tt;
-            })
-
-        pub goes-over : cause_by view stops step from (place_of next) ≡ None
-            → IsGoing old mid next waiting
-        goes-over none =
-            record {
-              walks = walks;
-              since = omega (arith, past, gone.0);
-              within = gone.1;
-              tells = λ less. inr tells;
-              clear = record {
-                here = λ at after before. ⊎_elim
-                    (λ (less : at < place_of next). clear-over.here at after less)
-                    (λ (over : place_of next ≤ at).
-                    let same : place_of next ≡ at = omega (arith, over, before) in
-                    subst (λ (one : ℕ). cause_by view stops step from one ≡ None) same none)
-                    (cases_lt at (place_of next));
-                unrefused = clear-over.unrefused;
-              };
-              put = going.put;
-              told = told-over;
-              has_put = going.has_put;
-            }

@@ -3,7 +3,7 @@ use Rattle.std.proofs.Common.{◌≡◌, ◌≤◌, ◌-◌, ◌∙◌, ℕ, Lis
 use Rattle.std.specs.Prelude.{codes}
 use Rattle.hmac_core.specs.Hash.{Hash}
 use Rattle.outside_edge.specs.declared.sink.Sink as sink
-use Rattle.debug_link.specs.{Console.console, Conversation.Answer, Writing.{Answers, PacketSink, PutsPackets}, declared.{answer_fault.AnswerFault.AnswerFault, connection.Connection.Connection}}
+use Rattle.debug_link.specs.{Console.console, Conversation.{Answer, HaveCome, count_of}, Writing.{Answers, PacketSink, PutsPackets}, declared.{answer_fault.AnswerFault.AnswerFault, connection.Connection.Connection}}
 use Rattle.debug_session.specs.{Request.most_steps, declared.{command.{Going.Going, Way.{Way, TheVariants.{Ahead, Back}}}, request.Request.{Request, TheVariants.Until}, stop.Stop.Stop}, Cause.{Step, cause}, Going.{Standing, first_stop, interrupted, last_stop, step_of, where_to}, Monitor.request_text, Place.{Run, sight_at, view_of}, Session.{Session, after_request, lines_to, answer_to_request, says, stands_at}, Sight.Sight, StopReply.stop_reply, Stops.Stops}
 use Rattle.debug_session.proofs.Views.{view-at}
 use Rattle.debug_walk.specs.{Copies.TrackStandsFor, PlayedRun.played_run, Walk.{OfWalk, Walks, place_of}, declared.{track.Track.Track, walk.Walk.Walk}}
@@ -63,7 +63,7 @@ module _ {D W : Type 0} (hash : Hash D) (w : sink.Ghosts W) where
       TrackStandsFor hash old.track (run_at hash old)
       → TrackStandsFor hash new.track (run_at hash old)
 
-  module _ (debugger mid after : Debugger D) (halted : Walk D) (to : To)
+  module _ (left left_new : Option ℕ) (debugger mid after : Debugger D) (halted : Walk D) (to : To)
       (is : debugger.halted ≡ Some halted)
       (same_run : mid.track.run ≡ debugger.track.run) (same_stops : mid.stops ≡ debugger.stops)
       (stays : (session : Session) → DebuggerStandsFor hash debugger session
@@ -93,11 +93,11 @@ module _ {D W : Type 0} (hash : Hash D) (w : sink.Ghosts W) where
       pub went-on : (old between new : PacketSink W) (end : Walk D) (stop : Stop)
           (result : Result Connection AnswerFault)
           → ((session : Session) → DebuggerStandsFor hash debugger session
-          → (interrupt : Option ℕ)
+          → (interrupt : Option ℕ) × HaveCome (count_of interrupt) left left_new
           × GoesOn hash w old between run session.place
           (to interrupt debugger.stops session.place) (Ok (end, stop)))
           → StandsThere between new mid after end stop result
-          → MayGive hash w old new debugger after
+          → MayGive hash w left left_new old new debugger after
           (λ interrupt session. stands_at session (to interrupt session.stops session.place)
           (lines_to (view_of run) Ahead session.place
           (to interrupt session.stops session.place))) result
@@ -107,6 +107,7 @@ module _ {D W : Type 0} (hash : Hash D) (w : sink.Ghosts W) where
                 let way = goes session here in
                 let now : Standing = to way.0 debugger.stops session.place in (
                   way.0,
+                  way.1,
                   subst
                       (λ (stops : Stops). Answers (DebuggerStandsFor hash) w old new after
                       (stands_at session (to way.0 stops session.place)
@@ -114,10 +115,10 @@ module _ {D W : Type 0} (hash : Hash D) (w : sink.Ghosts W) where
                       result)
                       here.stops
                       (answered-behind (DebuggerStandsFor hash) w old between new after
-                      (stands_at session now []) (lines_to (view_of run) Ahead session.place now) result
-                      way.1.put
+                      (stands_at session now []) (lines_to (view_of run) Ahead session.place now)
+                      result way.2.put
                       (stands-there between new end stop result session now here there
-                      way.1.arrived)),
+                      way.2.arrived)),
                 );
             same_run = after_run ∙ same_run;
           }
@@ -126,10 +127,10 @@ module _ {D W : Type 0} (hash : Hash D) (w : sink.Ghosts W) where
       pub went-back : (old new : PacketSink W) (end : Walk D) (stop : Stop)
           (result : Result Connection AnswerFault)
           → ((session : Session) → DebuggerStandsFor hash debugger session
-          → (interrupt : Option ℕ)
+          → (interrupt : Option ℕ) × HaveCome (count_of interrupt) left left_new
           × HasArrived hash run (to interrupt debugger.stops session.place) end stop)
           → StandsThere old new mid after end stop result
-          → MayGive hash w old new debugger after
+          → MayGive hash w left left_new old new debugger after
           (λ interrupt session. stands_at session (to interrupt session.stops session.place) [])
           result
       went-back old new end stop result goes there =
@@ -137,36 +138,39 @@ module _ {D W : Type 0} (hash : Hash D) (w : sink.Ghosts W) where
             answers = λ session here.
                 let way = goes session here in (
                   way.0,
+                  way.1,
                   subst
                       (λ (stops : Stops). Answers (DebuggerStandsFor hash) w old new after
                       (stands_at session (to way.0 stops session.place) []) result)
                       here.stops
                       (stands-there old new end stop result session
-                      (to way.0 debugger.stops session.place) here there way.1),
+                      (to way.0 debugger.stops session.place) here there way.2),
                 );
             same_run = after_run ∙ same_run;
           }
 
   -- it failed on its way
-  pub failed-on : (old new : PacketSink W) (debugger after : Debugger D) (to : To)
+  pub failed-on : (left left_new : Option ℕ) (old new : PacketSink W) (debugger after : Debugger D)
+      (to : To)
       (fault : AnswerFault) (result : Result Connection AnswerFault)
       → IsErr result
       → ((session : Session) → DebuggerStandsFor hash debugger session
-      → (interrupt : Option ℕ)
+      → (interrupt : Option ℕ) × HaveCome (count_of interrupt) left left_new
       × GoesOn hash w old new (run_at hash debugger) session.place
       (to interrupt debugger.stops session.place) (Err fault))
       → after.track.run ≡ debugger.track.run
-      → MayGive hash w old new debugger after
+      → MayGive hash w left left_new old new debugger after
       (λ interrupt session. stands_at session (to interrupt session.stops session.place)
       (lines_to (view_in hash debugger) Ahead session.place
       (to interrupt session.stops session.place)))
       result
-  failed-on old new debugger after to fault result failed goes run_is =
+  failed-on left left_new old new debugger after to fault result failed goes run_is =
       record {
         answers = λ session here.
             let way = goes session here in
             let now : Standing = to way.0 debugger.stops session.place in (
               way.0,
+              way.1,
               subst
                   (λ (stops : Stops). Answers (DebuggerStandsFor hash) w old new after
                   (stands_at session (to way.0 stops session.place)
@@ -175,8 +179,9 @@ module _ {D W : Type 0} (hash : Hash D) (w : sink.Ghosts W) where
                   result)
                   here.stops
                   (failed-before (DebuggerStandsFor hash) w old new after
-                  (stands_at session now []) (lines_to (view_in hash debugger) Ahead session.place now)
-                  result failed way.1.prefix),
+                  (stands_at session now [])
+                  (lines_to (view_in hash debugger) Ahead session.place now) result failed
+                  way.2.prefix),
             );
         same_run = run_is;
       }
@@ -220,19 +225,21 @@ module _ {D W : Type 0} (hash : Hash D) (w : sink.Ghosts W) where
           interrupted (view_of here-run) session.place interrupt
           (where_to (view_of here-run) debugger.stops way going session.place)
 
-      pub goes-as : (old new : PacketSink W) (result : Result (Walk D × Stop) AnswerFault)
+      pub goes-as : (left left_new : Option ℕ) (old new : PacketSink W)
+          (result : Result (Walk D × Stop) AnswerFault)
           → ((run : Run) (place : ℕ) → TrackStandsFor hash track run
           → StandsAt hash run place halted
-          → (interrupt : Option ℕ)
+          → (interrupt : Option ℕ) × HaveCome (count_of interrupt) left left_new
           × GoesOn hash w old new run place
           (interrupted (view_of run) place interrupt
           (first_stop (cause (view_of run) stops (seek_ahead step)) place (most_steps - place)))
           result)
-          → (interrupt : Option ℕ)
+          → (interrupt : Option ℕ) × HaveCome (count_of interrupt) left left_new
           × GoesOn hash w old new here-run session.place (ends-at Ahead interrupt) result
-      goes-as old new result goes =
+      goes-as left left_new old new result goes =
           subst
           (λ (one : Option Step). (interrupt : Option ℕ)
+          × HaveCome (count_of interrupt) left left_new
           × GoesOn hash w old new here-run session.place
           (interrupted (view_of here-run) session.place interrupt
           (first_stop (cause (view_of here-run) debugger.stops (seek_ahead one)) session.place
@@ -240,23 +247,26 @@ module _ {D W : Type 0} (hash : Hash D) (w : sink.Ghosts W) where
           same-step
           (subst
           (λ (one : Stops). (interrupt : Option ℕ)
+          × HaveCome (count_of interrupt) left left_new
           × GoesOn hash w old new here-run session.place
           (interrupted (view_of here-run) session.place interrupt
           (first_stop (cause (view_of here-run) one (seek_ahead step)) session.place
           (most_steps - session.place))) result)
           stops_is (goes here-run session.place track-here here))
 
-      pub goes-back-as : (end : Walk D) (stop : Stop)
+      pub goes-back-as : (left left_new : Option ℕ) (end : Walk D) (stop : Stop)
           → ((run : Run) (from : ℕ) → TrackStandsFor hash track run
           → StandsAt hash run from halted
-          → (interrupt : Option ℕ)
+          → (interrupt : Option ℕ) × HaveCome (count_of interrupt) left left_new
           × HasArrived hash run
           (interrupted (view_of run) from interrupt
           (last_stop (cause (view_of run) stops (seek_back step from)) from)) end stop)
-          → (interrupt : Option ℕ) × HasArrived hash here-run (ends-at Back interrupt) end stop
-      goes-back-as end stop goes =
+          → (interrupt : Option ℕ) × HaveCome (count_of interrupt) left left_new
+          × HasArrived hash here-run (ends-at Back interrupt) end stop
+      goes-back-as left left_new end stop goes =
           subst
           (λ (one : Option Step). (interrupt : Option ℕ)
+          × HaveCome (count_of interrupt) left left_new
           × HasArrived hash here-run
           (interrupted (view_of here-run) session.place interrupt
           (last_stop (cause (view_of here-run) debugger.stops (seek_back one session.place))
@@ -264,6 +274,7 @@ module _ {D W : Type 0} (hash : Hash D) (w : sink.Ghosts W) where
           same-step
           (subst
           (λ (one : Stops). (interrupt : Option ℕ)
+          × HaveCome (count_of interrupt) left left_new
           × HasArrived hash here-run
           (interrupted (view_of here-run) session.place interrupt
           (last_stop (cause (view_of here-run) one (seek_back step session.place)) session.place))

@@ -24,19 +24,18 @@ exact-tells run stops asleep place stretch kept =
       begun = begins-before run place stretch.place kept.begin;
       first = kept.first;
       due = ap (λ (begin : ℕ). is_due stops.until begin place) kept.begin;
-      begins = λ is. kept.begins;
-      boot = λ is. kept.boot;
+      exact = λ is. kept;
     }
 
 -- where a step is looked for, what is kept says what it led over
-steps-known : (one : Option Step) (stretch : Stretch) (here : Sight) (between : List Sight)
-    → (is_some one ≡ true → (highest : ℕ) → (stretch.begins && nat_le stretch.level highest)
-    ≡ begins_within highest between)
-    → (is_some one ≡ true → stretch.boots ≡ boots between)
-    → steps_by one stretch (pc_of here.registers) ≡ steps_over one here between
-steps-known None stretch here between begins boot = refl
-steps-known (Some one) stretch here between begins boot =
-    λ i. (boot refl i || begins refl one.highest i) && not (is_within one (pc_of here.registers))
+steps-known : (run : Run) (stops : Stops) (step : Option Step) (place : ℕ) (stretch : Stretch)
+    (here : Sight) → TellsCause stops (is_some step) run place stretch
+    → steps_by step stretch (pc_of here.registers)
+    ≡ steps_over step here (behind (view_of run) place)
+steps-known run stops None place stretch here tells = refl
+steps-known run stops (Some one) place stretch here tells =
+    let kept = tells.exact refl in
+    λ i. (kept.boot i || kept.begins one.highest i) && not (is_within one (pc_of here.registers))
 
 pub cause-known : (run : Run) (stops : Stops) (step : Option Step) (place : ℕ) (stretch : Stretch)
     (broken : Bool) (pc : ℕ)
@@ -54,8 +53,16 @@ cause-known run stops step place stretch broken pc tells here broken_is pc_is =
     (λ i. stop_of (tells.first i)
     ((broken_is ∙ ap (λ (due : Bool). is_broken_at stops sight || due) tells.due) i)
     ((ap (steps_by step stretch) pc_is
-    ∙ steps-known step stretch sight before tells.begins tells.boot) i) None)
+    ∙ steps-known run stops step place stretch sight tells) i) None)
     ∙ sym (cond-true sight.boundary
     (stop_of (hit_on Ahead (hits stops.watches before))
     (is_plain stops sight (place - length before) place) (steps_over step sight before) None)
     None here)
+
+-- so does what is kept where a stretch begins
+pub fresh-tells : (run : Run) (stops : Stops) (asleep : Bool) (place : ℕ) (stretch : Stretch)
+    → ((sight_at run place).boundary ≡ true) ⊎ IsStretch stops.watches run place stretch
+    → ((sight_at run place).boundary ≡ true) ⊎ TellsCause stops asleep run place stretch
+fresh-tells run stops asleep place stretch (inl here) = inl here
+fresh-tells run stops asleep place stretch (inr kept) =
+    inr (exact-tells run stops asleep place stretch kept)

@@ -8,14 +8,15 @@ pub mod AskedTexts
 pub mod Back
 pub mod Boundaries
 pub mod Going
+pub mod Found
 pub mod Gone
 pub mod GrownTexts
 pub mod Interrupted
 pub mod Kept
 pub mod LookingBack
 pub mod RefusalText
+pub mod Refusals
 pub mod Showing
 pub mod StepTexts
 pub mod Told
 pub mod ToldTexts
-pub mod Unasked

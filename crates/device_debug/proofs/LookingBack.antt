@@ -1,16 +1,21 @@
 -- A walk that looks back at a piece of the way, from boundary to boundary.
-use Rattle.std.proofs.Common.{◌≡◌, ◌≤◌, ◌<◌, ◌+◌, ◌-◌, ◌∙◌, ◌⊎◌, inl, inr, ⊎_elim, ℕ, zero, suc, Bool, true, false, List, Option, Some, None, length, max, refl, ap, sym, subst, arith}
-use Rattle.std.specs.Prelude.{IfSome, nat_lt, if◌then◌else◌}
+use Rattle.std.proofs.Common.{◌≡◌, ◌≤◌, ◌<◌, ◌+◌, ◌-◌, ◌∙◌, ◌⊎◌, inl, inr, ⊎_elim, ℕ, zero, suc, Bool, true, false, List, Option, Some, None, length, refl, ap, sym, subst, arith}
+use Rattle.std.specs.Prelude.{◌&&◌, IfSome, nat_lt, if◌then◌else◌}
 use Rattle.std.specs.Option.{option_or}
-use Rattle.std.proofs.Math.Nat.{max-le}
 use Rattle.std.proofs.lemmas.Bool.{cases_Bool, cases_lt, cond-false, cond-true, ltb-false, ltb-true}
 use Rattle.hmac_core.specs.Hash.{Hash}
 use Rattle.part_definitions.specs.CpuRegister.{pc_of}
-use Rattle.debug_session.specs.{Request.most_steps, Stops.Stops, declared.stop.Stop.Stop, Cause.{Step, behind, is_plain, refusal_or, stop_of}, Place.{Run, sight_at, view_of}, Sight.Sight}
+use Rattle.debug_session.specs.{Request.most_steps, Stops.Stops, declared.stop.Stop.Stop, Cause.{Step, behind, is_plain}, Place.{Run, sight_at, view_of}, Sight.Sight}
 use Rattle.debug_session.proofs.Views.{view-at}
-use Rattle.debug_walk.specs.{Copies.{IsBefore, IsBegun}, Passing.ArePassed, Walk.{IsStretch, TellsCause, Walks, place_of}, declared.{stretch.Stretch.Stretch, walk.Walk.Walk}}
-use Rattle.device_debug.specs.{Back.{IsLastBehind, stop_with_place}, Seek.steps_by}
-use Rattle.device_debug.proofs.{Back.{Covers, cause-behind, cause_back, covers-all, covers-here, covers-none, covers-on, early-or, no-boundary, passed-none, plain_at}, Kept.exact-tells}
+use Rattle.debug_walk.specs.{Copies.{IsBefore, IsBegun}, Passing.{ArePassed, AreSilent, Sleeps}, Walk.{IsStretch, Walks, place_of}, declared.{stretch.Stretch.Stretch, walk.Walk.Walk}}
+use Rattle.device_debug.specs.{Back.{IsLastBehind, stop_with_place}, Seek.cause_before}
+use Rattle.device_debug.proofs.{Back.{Covers, asleep-none, cause-behind, cause_back, covers-all, covers-here, covers-none, covers-on, early-or, no-boundary, plain-none, plain_at}}
+
+either-early : (last : ℕ) (past : Bool) (one other : Option (ℕ × Stop))
+    → IfSome one (λ is. is.0 ≤ last) → IfSome other (λ is. is.0 ≤ last)
+    → IfSome (if past then one else other) (λ is. is.0 ≤ last)
+either-early last true one other early late = early
+either-early last false one other early late = late
 
 module _ {D : Type 0} (hash : Hash D) (run : Run) (stops : Stops) (step : Option Step)
     (from begin last : ℕ)
@@ -71,180 +76,239 @@ module _ {D : Type 0} (hash : Hash D) (run : Run) (stops : Stops) (step : Option
           }
 
       -- what was found before, and at the boundary that it comes from
-      pub found_by : ℕ → Option Stop → Option (ℕ × Stop) → Option (ℕ × Stop)
+      abbrev pub found_by : ℕ → Option Stop → Option (ℕ × Stop) → Option (ℕ × Stop)
       found_by place stop found =
           if nat_lt begin place then option_or (stop_with_place place stop) found else found
 
-      module _ (walk next after : Walk D) (place pc place' pc' : ℕ) (broken broken' : Bool)
-          (found found' : Option (ℕ × Stop))
+      -- it left a place, asleep up to its last step, and went on to the next boundary
+      module _ (late : last < from) (walk left next : Walk D) (place pc place' pc' : ℕ)
+          (broken broken' : Bool) (found found' : Option (ℕ × Stop))
           (looks : IsLookingBack walk place pc broken found)
-          (more : place_of walk < from) (early : place ≤ last)
-          (gone : (place_of walk < place_of next) × (place_of next ≤ from))
+          (gone : (place_of walk < place_of left) × (place_of left ≤ last + 1))
+          (alone : broken ≡ true → place_of left ≡ place_of walk + 1)
+          (silent : AreSilent run (place_of walk) (place_of left - 1))
+          (passed : ArePassed stops true run (place_of walk) (place_of left))
+          (on : (place_of left ≤ place_of next) × (place_of next ≤ from))
           (kept : IsStretch stops.watches run (place_of next) next.stretch)
-          (none : (at : ℕ) → place_of walk < at → at < place_of next
+          (none : (at : ℕ) → place_of left ≤ at → at < place_of next
           → (sight_at run at).boundary ≡ false)
           (ends : (place_of next ≡ from) ⊎ ((sight_at run (place_of next)).boundary ≡ true))
-          (found_is : found' ≡ (if nat_lt begin place
-          then option_or (stop_with_place place (stop_of next.stretch.last_hit broken
-          (steps_by step next.stretch pc) (refusal_or next.stretch.refused None))) found
-          else found))
+          (found_is : found'
+          ≡ found_by (place_of left - 1) (cause_before step next.stretch broken pc) found)
         where
-          until : ℕ
+          -- where the last stretch begins, and where it ends
+          abbrev there : ℕ
+          there = place_of left - 1
+
+          abbrev until : ℕ
           until = place_of next
 
-          before : place < until
-          unfolding until
-          before = omega (arith, looks.place_is, gone.0)
+          bounds : (place ≤ there) × (suc there ≡ place_of left) × (there < until) × (until ≤ from)
+              × (there ≤ last)
+          bounds = (
+            omega (arith, looks.place_is, gone),
+            omega (arith, gone),
+            omega (arith, gone, on),
+            on.1,
+            omega (arith, gone),
+          )
 
-          none-on : (at : ℕ) → place < at → at < until → (view_of run at).boundary ≡ false
-          unfolding until
+          slept : (at : ℕ) → place ≤ at → at < there → Sleeps run at
+          slept at past before =
+              let one =
+              passed (suc at) (omega (arith, past, looks.place_is))
+              (omega (arith, before, bounds)) in
+              one.slept refl at refl
+
+          -- it keeps its registers
+          same-registers : (steps at : ℕ) → at ≡ steps + place → at ≤ there
+              → (sight_at run at).registers ≡ (sight_at run place).registers
+          same-registers zero at is within_there =
+              let same : at ≡ place = omega (arith, is) in
+              ap (λ (one : ℕ). (sight_at run one).registers) same
+          same-registers (suc steps) at is within_there =
+              let before : ℕ = steps + place in
+              let next_is : at ≡ suc before = omega (arith, is) in
+              ap (λ (one : ℕ). (sight_at run one).registers) next_is
+              ∙ (slept before (omega arith) (omega (arith, next_is, within_there))).same
+              ∙ same-registers steps before refl (omega (arith, next_is, within_there))
+
+          pc-there : pc ≡ pc_of (view_of run there).registers
+          pc-there =
+              looks.pc_is (omega (arith, bounds))
+              ∙ ap (λ (sight : Sight). pc_of sight.registers)
+              (sym (view-here place (omega (arith, bounds))))
+              ∙ ap pc_of
+              (sym (same-registers (there - place) there (omega (arith, bounds)) (omega arith)))
+              ∙ ap (λ (sight : Sight). pc_of sight.registers)
+              (view-here there (omega (arith, bounds)))
+
+          -- the boundaries that it slept over are not broken
+          unbroken : place < there → broken ≡ false
+          unbroken less =
+              ⊎_elim
+              (λ (is : broken ≡ true). absurd (omega (arith, alone is, less, looks.place_is)))
+              (λ (none_is : broken ≡ false). none_is) (cases_Bool broken)
+
+          settled-there : begin < there → (view_of run there).boundary ≡ true
+          settled-there past =
+              ⊎_elim
+              (λ (less : place < there).
+              let before : ℕ = there - 1 in
+              let next_is : suc before ≡ there = omega (arith, less) in
+              subst (λ (sight : Sight). sight.boundary ≡ true)
+              (view-here there (omega (arith, bounds)))
+              (subst (λ (at : ℕ). (sight_at run at).boundary ≡ true) next_is
+              (slept before (omega (arith, less)) (omega (arith, less))).to))
+              (λ (over : there ≤ place).
+              let same : place ≡ there = omega (arith, over, bounds) in
+              subst (λ (at : ℕ). (view_of run at).boundary ≡ true) same
+              (⊎_elim
+              (λ (here : (view_of run place).boundary ≡ true). here)
+              (λ (all : place ≡ from). absurd (omega (arith, all, bounds, late)))
+              (looks.settled (omega (arith, past, same)))))
+              (cases_lt place there)
+
+          plain-past : (at : ℕ) → place < at → at ≤ there → (view_of run at).boundary ≡ true
+              → plain_at run stops step from at ≡ false
+          plain-past at past before here =
+              plain-none (view_of run at).boundary (plain_at run stops step from at)
+              (subst
+              (λ (sight : Sight). (sight.boundary
+              && is_plain stops sight (at - length (behind (view_of run) at)) at) ≡ false)
+              (view-here at (omega (arith, before, bounds)))
+              (passed at (omega (arith, past, looks.place_is))
+              (omega (arith, before, bounds))).plain)
+              here
+
+          plain-here : place < there → begin < place → plain_at run stops step from place ≡ false
+          plain-here less past =
+              sym (looks.broken_is past (omega (arith, less, bounds))) ∙ unbroken less
+
+          broken-there : begin < there → broken ≡ plain_at run stops step from there
+          broken-there past =
+              ⊎_elim
+              (λ (less : place < there).
+              unbroken less ∙ sym (plain-past there less (omega arith) (settled-there past)))
+              (λ (over : there ≤ place).
+              let same : place ≡ there = omega (arith, over, bounds) in
+              looks.broken_is (omega (arith, past, same)) (omega (arith, same, bounds))
+              ∙ ap (plain_at run stops step from) same)
+              (cases_lt place there)
+
+          none-slept : (at : ℕ) → begin < at → place ≤ at → at < there → cause_at at ≡ None
+          none-slept at past over before =
+              let sleeps = slept at over before in
+              let settled : (view_of run at).boundary ≡ true =
+              subst (λ (sight : Sight). sight.boundary ≡ true)
+              (view-here at (omega (arith, before, bounds))) sleeps.from in
+              asleep-none run stops step from at (omega (arith, before, bounds)) within sleeps
+              (silent at (omega (arith, over, looks.place_is)) before)
+              (passed (suc at) (omega (arith, over, looks.place_is)) (omega (arith, before))).met
+              (⊎_elim
+              (λ (less : place < at). plain-past at less (omega (arith, before)) settled)
+              (λ (not_less : at ≤ place).
+              let same : place ≡ at = omega (arith, not_less, over) in
+              subst (λ (other : ℕ). plain_at run stops step from other ≡ false) same
+              (plain-here (omega (arith, same, before)) (omega (arith, same, past))))
+              (cases_lt place at))
+
+          none-on : (at : ℕ) → there < at → at < until → (view_of run at).boundary ≡ false
           none-on at past less =
               subst (λ (one : Sight). one.boundary ≡ false)
-              (view-here at (omega (arith, less, gone.1)))
-              (none at (omega (arith, past, looks.place_is)) less)
+              (view-here at (omega (arith, less, on)))
+              (none at (omega (arith, past)) less)
 
           ends-there : (until ≡ from) ⊎ ((view_of run until).boundary ≡ true)
-          unfolding until
           ends-there =
               ⊎_elim (λ (all : until ≡ from). inl all)
               (λ (here : (sight_at run until).boundary ≡ true).
-              inr (subst (λ (one : Sight). one.boundary ≡ true) (view-here until gone.1) here))
+              inr (subst (λ (one : Sight). one.boundary ≡ true) (view-here until on.1) here))
               ends
 
           abbrev stop_there : Option Stop
-          stop_there =
-              stop_of next.stretch.last_hit broken (steps_by step next.stretch pc)
-              (refusal_or next.stretch.refused None)
+          stop_there = cause_before step next.stretch broken pc
 
-          less : place < from
-          less = omega (arith, looks.place_is, more)
-
-          cause-there : begin < place → cause_at place ≡ stop_there
-          unfolding until
+          cause-there : begin < there → cause_at there ≡ stop_there
           cause-there past =
-              let settled : (view_of run place).boundary ≡ true = ⊎_elim
-              (λ (here : (view_of run place).boundary ≡ true). here)
-              (λ (all : place ≡ from). absurd (omega (arith, all, less)))
-              (looks.settled past) in
-              cause-behind run stops step from place until next.stretch broken settled before
-              gone.1 none-on ends-there (looks.broken_is past less) kept
-              ∙ ap (λ (one : ℕ). stop_of next.stretch.last_hit broken
-              (steps_by step next.stretch one) (refusal_or next.stretch.refused None))
-              (sym (looks.pc_is less))
+              cause-behind run stops step from there until next.stretch broken (settled-there past)
+              (omega (arith, bounds)) on.1 none-on ends-there (broken-there past) kept
+              ∙ ap (cause_before step next.stretch broken) (sym pc-there)
+
+          covers-last : Covers cause_at begin there found
+          covers-last =
+              covers-on cause_at begin place there found (omega (arith, bounds)) none-slept
+              looks.covers
 
           covers-there : Covers cause_at begin until found'
           covers-there =
-              let between : (at : ℕ) → begin < at → suc place ≤ at → at < until
+              let between : (at : ℕ) → begin < at → suc there ≤ at → at < until
               → cause_at at ≡ None =
               λ at past over below. no-boundary run stops step from at
               (none-on at (omega (arith, over)) below) in
               ⊎_elim
-              (λ (past : nat_lt begin place ≡ true).
-              let is : found' ≡ option_or (stop_with_place place stop_there) found =
-              found_is ∙ cond-true (nat_lt begin place)
-              (option_or (stop_with_place place stop_there) found)
-              found past in
-              let later : begin < place = ltb-true begin place past in
-              covers-on cause_at begin (suc place) until found' before between
-              (subst (Covers cause_at begin (suc place)) (sym is)
-              (covers-here cause_at begin place stop_there found later (cause-there later)
-              looks.covers)))
-              (λ (none_past : nat_lt begin place ≡ false).
-              let is : found' ≡ found =
-              found_is ∙ cond-false (nat_lt begin place)
-              (option_or (stop_with_place place stop_there) found) found none_past in
-              let same : place ≤ begin = ltb-false begin place none_past in
-              covers-on cause_at begin place until found' (omega (arith, before))
+              (λ (past : nat_lt begin there ≡ true).
+              let later : begin < there = ltb-true begin there past in
+              covers-on cause_at begin (suc there) until found' (omega (arith, bounds)) between
+              (subst (Covers cause_at begin (suc there))
+              (sym (found_is ∙ cond-true (nat_lt begin there)
+              (option_or (stop_with_place there stop_there) found) found past))
+              (covers-here cause_at begin there stop_there found later (cause-there later)
+              covers-last)))
+              (λ (none_past : nat_lt begin there ≡ false).
+              let same : there ≤ begin = ltb-false begin there none_past in
+              covers-on cause_at begin there until found' (omega (arith, bounds))
               (λ at past over below. between at past (omega (arith, past, same)) below)
-              (subst (Covers cause_at begin place) (sym is) looks.covers))
-              (cases_Bool (nat_lt begin place))
+              (subst (Covers cause_at begin there)
+              (sym (found_is ∙ cond-false (nat_lt begin there)
+              (option_or (stop_with_place there stop_there) found) found none_past))
+              covers-last))
+              (cases_Bool (nat_lt begin there))
 
           early-there : IfSome found' (λ one. one.0 ≤ last)
           early-there =
-              ⊎_elim
-              (λ (past : nat_lt begin place ≡ true).
-              subst (λ (one : Option (ℕ × Stop)). IfSome one (λ is. is.0 ≤ last))
-              (sym (found_is ∙ cond-true (nat_lt begin place)
-              (option_or (stop_with_place place stop_there) found) found past))
-              (early-or last place stop_there found early looks.early))
-              (λ (none_past : nat_lt begin place ≡ false).
-              subst (λ (one : Option (ℕ × Stop)). IfSome one (λ is. is.0 ≤ last))
-              (sym (found_is ∙ cond-false (nat_lt begin place)
-              (option_or (stop_with_place place stop_there) found) found none_past))
+              subst (λ (one : Option (ℕ × Stop)). IfSome one (λ is. is.0 ≤ last)) (sym found_is)
+              (either-early last (nat_lt begin there)
+              (option_or (stop_with_place there stop_there) found) found
+              (early-or last there stop_there found (omega (arith, gone)) looks.early)
               looks.early)
-              (cases_Bool (nat_lt begin place))
 
-          pub looks-on : Walks hash run after
-              → (place_of next ≤ place_of after) × (place_of after ≤ max from (place_of next))
-              → TellsCause stops true run (place_of after) after.stretch
-              → ArePassed stops true run (place_of next) (place_of after)
-              → place' ≡ place_of after
-              → pc' ≡ pc_of (sight_at run (place_of after)).registers
-              → broken' ≡ is_plain stops (sight_at run (place_of after))
-              (place_of after - length (behind (view_of run) (place_of after))) (place_of after)
-              → IsLookingBack after place' pc' broken' found'
-          unfolding until
-          looks-on walks bounds tells passed place_is pc_is broken_is =
-              let end : place_of after ≤ from =
-              omega (
-                arith,
-                bounds.1,
-                max-le {a = from} {b = place_of next} {k = from}
-                    (omega arith) gone.1,
-              ) in
-              let there = view-here (place_of after) end in
-              let settled : ((view_of run (place_of after)).boundary ≡ true)
-              ⊎ (place_of after ≡ from) = ⊎_elim
-              (λ (moved : until < place_of after).
-              let before_it : ℕ = place_of after - 1 in
-              let one : suc before_it ≡ place_of after = omega (arith, moved) in
-              let slept = (passed before_it (omega (arith, moved)) (omega (arith, moved))).sleeps
-              refl in
-              inl (subst (λ (sight : Sight). sight.boundary ≡ true) there
-              (subst (λ (at : ℕ). (sight_at run at).boundary ≡ true) one slept.to)))
-              (λ (stayed : place_of after ≤ until).
-              let same : until ≡ place_of after = omega (arith, stayed, bounds.0) in
-              ⊎_elim (λ (all : until ≡ from). inr (omega (arith, all, same)))
-              (λ (here : (view_of run until).boundary ≡ true).
-              inl (subst (λ (at : ℕ). (view_of run at).boundary ≡ true) same here)) ends-there)
-              (cases_lt until (place_of after)) in
+          pub looks-on : Walks hash run next → place' ≡ place_of next
+              → pc' ≡ pc_of (sight_at run (place_of next)).registers
+              → broken' ≡ is_plain stops (sight_at run (place_of next))
+              (place_of next - length (behind (view_of run) (place_of next))) (place_of next)
+              → IsLookingBack next place' pc' broken' found'
+          looks-on walks place_is pc_is broken_is =
+              let here = view-here until on.1 in
               record {
                 walks = walks;
                 place_is = place_is;
-                within = omega (arith, place_is, end);
-                from_begin = omega (arith, place_is, bounds.0, before, looks.from_begin);
+                within = omega (arith, place_is, on);
+                from_begin = omega (arith, place_is, bounds, looks.from_begin);
                 settled = λ past. subst
                     (λ (at : ℕ). ((view_of run at).boundary ≡ true) ⊎ (at ≡ from))
-                    (sym place_is) settled;
-                pc_is = λ some. pc_is ∙ ap (λ (sight : Sight). pc_of sight.registers) there
+                    (sym place_is)
+                    (⊎_elim (λ (all : until ≡ from). inr all)
+                    (λ (is : (view_of run until).boundary ≡ true). inl is) ends-there);
+                pc_is = λ some. pc_is ∙ ap (λ (sight : Sight). pc_of sight.registers) here
                     ∙ ap (λ (at : ℕ). pc_of (view_of run at).registers) (sym place_is);
                 broken_is = λ past some. broken_is
                     ∙ ap (λ (sight : Sight). is_plain stops sight
-                    (place_of after - length (behind (view_of run) (place_of after)))
-                    (place_of after)) there
+                    (until - length (behind (view_of run) until)) until) here
                     ∙ ap (plain_at run stops step from) (sym place_is);
                 fresh = λ some. inl (⊎_elim
-                    (λ (here : (view_of run (place_of after)).boundary ≡ true).
-                    subst (λ (at : ℕ). (sight_at run at).boundary ≡ true) (sym place_is)
-                    (subst (λ (sight : Sight). sight.boundary ≡ true) (sym there) here))
-                    (λ (all : place_of after ≡ from). absurd (omega (arith, all, some, place_is)))
-                    settled);
+                    (λ (all : until ≡ from). absurd (omega (arith, all, some, place_is)))
+                    (λ (is : (sight_at run until).boundary ≡ true).
+                    subst (λ (at : ℕ). (sight_at run at).boundary ≡ true) (sym place_is) is)
+                    ends);
                 covers = subst (λ (at : ℕ). Covers cause_at begin at found') (sym place_is)
-                    (covers-on cause_at begin until (place_of after) found' bounds.0
-                    (λ at past over below. passed-none run stops step from at
-                    (omega (arith, below, end)) within (passed at over below))
-                    covers-there);
+                    covers-there;
                 early = early-there;
               }
 
       pub looks-back : (walk : Walk D) (place pc : ℕ) (broken : Bool)
           (found : Option (ℕ × Stop))
-          → IsLookingBack walk place pc broken found → last < from
-          → (place_of walk < from → place ≤ last → ⊥)
+          → IsLookingBack walk place pc broken found → last < place
           → IsLastBehind cause_at begin last found
-      looks-back walk place pc broken found looks late over =
-          let past : last < place = ⊎_elim (λ (less : last < place). less)
-          (λ (not_past : place ≤ last).
-          absurd (over (omega (arith, not_past, late, looks.place_is)) not_past))
-          (cases_lt last place) in
+      looks-back walk place pc broken found looks past =
           covers-all cause_at begin place last found past looks.early looks.covers

@@ -1,14 +1,10 @@
 -- Going forwards.
-use Rattle.std.specs.Prelude.{ℕ, ◌||◌, Bool, zero, suc, not, Option, Some, None, is_some, nat_lt, if◌then◌else◌}
+use Rattle.std.specs.Prelude.{ℕ, zero, suc, Option, Some, None, is_some, nat_lt, if◌then◌else◌}
 use Rattle.bus_signals.specs.declared.rule.Rule.{Rule}
-use Rattle.debug_session.specs.{Request.most_steps, declared.command.Way.TheVariants.Ahead, Cause.{Seek, Step, refusal_or}, Sight.View, Stops.{Stops, is_empty}}
+use Rattle.debug_session.specs.{Request.most_steps, declared.command.Way.TheVariants.Ahead, Cause.{Seek, Step, refusal_or}, Sight.View}
 
 abbrev pub seek_ahead : Option Step → Seek
 seek_ahead step = record { way = Ahead; last = most_steps; step = step }
-
--- a step, a breakpoint, a watch or a number of steps is looked for
-abbrev pub is_asked : Stops → Option Step → Bool
-is_asked stops step = is_some step || not (is_empty stops)
 
 abbrev pub place_past : ℕ → ℕ → Option ℕ
 place_past from place = if nat_lt from place then Some place else None

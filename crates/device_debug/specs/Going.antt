@@ -1,9 +1,11 @@
 -- A walk that went to where a debugger stops.
-use Rattle.std.specs.Prelude.{◌≡◌, ◌≤◌, ◌⊎◌, ℕ, Result, IfOk, OnErr, OnOk}
-use Rattle.debug_session.specs.{Request.most_steps, declared.{command.Way.TheVariants.Ahead, stop.Stop.Stop}, Going.Standing, Place.{Run, view_of}, Session.lines_to}
-use Rattle.debug_link.specs.{Packet.packets_of, Writing.{HasPut, PacketSink}, declared.answer_fault.AnswerFault.AnswerFault}
-use Rattle.debug_walk.specs.{Walk.{IsFresh, Walks, place_of}, declared.walk.Walk.Walk}
+use Rattle.std.specs.Prelude.{◌≡◌, ◌≤◌, ◌⊎◌, ◌++◌, ℕ, codes, Option, Some, None, Result, IfOk, OnErr, OnOk}
+use Rattle.bus_signals.specs.declared.rule.Rule.{Rule}
+use Rattle.debug_session.specs.{Request.most_steps, declared.{command.Way.TheVariants.Ahead, stop.Stop.{Stop, TheVariants.Refused}}, Going.Standing, Place.{Run, view_of}, Session.lines_to}
+use Rattle.debug_link.specs.{Console.console, Packet.packets_of, Writing.{HasPut, PacketSink, PutsPackets}, declared.answer_fault.AnswerFault.AnswerFault}
+use Rattle.debug_walk.specs.{Copies.IsAt, Walk.{IsFresh, Walks, place_of}, declared.walk.Walk.Walk}
 use Rattle.hmac_core.specs.Hash.{Hash}
+use Rattle.printed_lines.specs.Line.{reset_line}
 use Rattle.outside_edge.specs.Sink.{TakesPrefix}
 use Rattle.outside_edge.specs.declared.sink.Sink as sink
 
@@ -29,3 +31,13 @@ pub record GoesOn {D W : Type 0} (hash : Hash D) (w : sink.Ghosts W)
   pub put : OnOk result (HasPut w old new (lines_to (view_of run) Ahead place now))
   pub prefix : OnErr result (TakesPrefix w.stands old.sink new.sink
       (packets_of (lines_to (view_of run) Ahead place now)))
+
+-- where a step is refused it is told of, and a walk stands at the boundary before it
+abbrev pub StopsBefore : {D W : Type 0} → Hash D → sink.Ghosts W → PacketSink W → PacketSink W
+    → Run → ℕ → Option (ℕ × Rule) → Result (Option (Walk D × Stop)) AnswerFault → Type 0
+StopsBefore hash w old new run step None result =
+    (new ≡ old) × IfOk result (λ stopped. stopped ≡ None)
+StopsBefore {D} hash w old new run step (Some refused) result =
+    PutsPackets w old new (console (codes "stops before " ++ reset_line step refused.1)) result
+    × IfOk result (λ stopped. (walk : Walk D)
+    × IsAt hash run refused.0 walk × (stopped ≡ Some (walk, Refused refused.1)))

@@ -2,7 +2,7 @@
 use Rattle.std.specs.Prelude.{◌≡◌, ℕ, List, Option, Result, Some}
 use Rattle.hmac_core.specs.Hash.{Hash}
 use Rattle.outside_edge.specs.declared.sink.Sink as sink
-use Rattle.debug_link.specs.{Conversation.Answer, Writing.{Answers, PacketSink}, declared.{answer_fault.AnswerFault.AnswerFault, connection.Connection.Connection}}
+use Rattle.debug_link.specs.{Conversation.{Answer, HaveCome, count_of}, Writing.{Answers, PacketSink}, declared.{answer_fault.AnswerFault.AnswerFault, connection.Connection.Connection}}
 use Rattle.debug_session.specs.{Place.{Run, view_of}, Session.{Session, reply}, Sight.View}
 use Rattle.debug_walk.specs.{Copies.TrackStandsFor, PlayedRun.played_run, declared.walk.Walk.Walk}
 use Rattle.device_debug.specs.{Going.StandsAt, declared.{debugger.Debugger.Debugger, run_debugger.RunDebugger.RunDebugger}}
@@ -53,13 +53,13 @@ pub record Gives {D W : Type 0} (hash : Hash D) (w : sink.Ghosts W)
       → Answers (DebuggerStandsFor hash) w packets packets_new new (answer session) result
   pub same_run : new.track.run ≡ old.track.run
 
--- wherever it stands, this is answered, where it is interrupted so or not at all
-pub record MayGive {D W : Type 0} (hash : Hash D) (w : sink.Ghosts W)
+-- wherever it stands, this is answered, where an interrupt that has come ends it so, or none does
+pub record MayGive {D W : Type 0} (hash : Hash D) (w : sink.Ghosts W) (left left_new : Option ℕ)
     (packets packets_new : PacketSink W) (old new : Debugger D)
     (answer : Option ℕ → Session → Answer Session) (result : Result Connection AnswerFault)
     : Type 0 where
   pub answers : (session : Session)
       → DebuggerStandsFor hash old session
-      → (interrupt : Option ℕ)
+      → (interrupt : Option ℕ) × HaveCome (count_of interrupt) left left_new
       × Answers (DebuggerStandsFor hash) w packets packets_new new (answer interrupt session) result
   pub same_run : new.track.run ≡ old.track.run

@@ -1,14 +1,13 @@
-ghost use Rattle.std.specs.Prelude.{◌≡◌, ◌≤◌, ◌<◌, ◌-◌, ◌⊎◌, ℕ, IfOk, None, Option, false, length, max, nat_lt, true, if◌then◌else◌};
+ghost use Rattle.std.specs.Prelude.{◌≡◌, ◌≤◌, ◌<◌, ◌+◌, ◌-◌, ◌⊎◌, ℕ, IfOk, Option, false, length, nat_lt, true, if◌then◌else◌};
 ghost use Rattle.std.specs.Option.{option_or};
-ghost use Rattle.debug_session.specs.{Request.most_steps, Cause.{behind, cause, is_due, is_plain, refusal_or, stop_of}, Going.{interrupted, last_stop}, Place.{Run, sight_at, view_of}};
-ghost use Rattle.debug_walk.specs.{Copies.{IsBefore, IsBegun, TrackStandsFor}, Passing.ArePassed, Walk.{IsStretch, OfWalk, TellsCause, Walks, place_of}};
-ghost use Rattle.device_core.specs.Device.{HasStepped};
-ghost use Rattle.device_debug.specs.{Going.{HasArrived, StandsAt}, Seek.{step_in, steps_by}, Back.{IsLastBehind, stop_with_place, seek_back}};
+ghost use Rattle.debug_session.specs.{Request.most_steps, Cause.{behind, cause, is_due, is_plain}, Going.{interrupted, last_stop}, Place.{Run, sight_at, view_of}};
+ghost use Rattle.debug_link.specs.Conversation.{HaveCome, count_of};
+ghost use Rattle.debug_walk.specs.{Copies.{IsBefore, IsBegun, TrackStandsFor}, Passing.{ArePassed, AreSilent}, Walk.{IsStretch, OfWalk, Walks, place_of}};
+ghost use Rattle.device_debug.specs.{Going.{HasArrived, StandsAt}, Seek.{cause_before, step_in}, Back.{IsLastBehind, stop_with_place, seek_back}};
 ghost use Rattle.part_definitions.specs.CpuRegister.{pc_of};
 
 use crate::interrupts::Interrupts;
-use crate::seek::{Seek, stop_of};
-use bus_signals::Kind;
+use crate::seek::{Seek, cause_before};
 use debug_session::{MOST_STEPS, Stop, StopList, Watch};
 use debug_walk::{Passing, Stretch, Track, Walk};
 use hmac_core::Digest32;
@@ -37,7 +36,9 @@ pub fn go_back<'a, D: Digest32, I: Interrupts>(
     ensures goes { (run : Run) (from : ℕ)
         → TrackStandsFor D.hash track.old run
         → StandsAt D.hash run from walk.entry
-        → IfOk result (λ end. (interrupt : Option ℕ) × HasArrived D.hash run
+        → IfOk result (λ end. (interrupt : Option ℕ)
+        × HaveCome (count_of interrupt) (I.left interrupts.old) (I.left interrupts.new)
+        × HasArrived D.hash run
         (interrupted (view_of run) from interrupt
         (last_stop (cause (view_of run) stops.now (seek_back (step_in seek.now) from)) from))
         end.0 end.1) }
@@ -45,6 +46,7 @@ pub fn go_back<'a, D: Digest32, I: Interrupts>(
         → TrackStandsFor D.hash track.old run
         → TrackStandsFor D.hash track.new run }
     ensures same_run { track.new.run ≡ track.old.run }
+    ensures came { HaveCome 0 (I.left interrupts.old) (I.left interrupts.new) }
 {
     let end = walk.place().min(MOST_STEPS);
     if end <= 1 {
@@ -78,11 +80,11 @@ fn last_cause<'a, D: Digest32>(
     from: u64,
     seek: &Seek,
 ) -> Option<(u64, Stop)>
+    requires late { last < from }
     requires few { from ≤ most_steps }
     ensures found { (run : Run)
         → IsBegun D.hash run walk.entry
         → IsBefore last walk.entry
-        → last < from
         → IsLastBehind (cause (view_of run) stops.now (seek_back (step_in seek.now) from))
         (place_of walk.entry) last result }
     ensures stays { (run : Run)
@@ -95,35 +97,69 @@ fn last_cause<'a, D: Digest32>(
     let mut distance = last.saturating_sub(begin) / 8;
     let mut found = None;
     let mut here = place_here(&walk, stops);
-    while walk.place() < from && here.place <= last {
+    while here.place <= last {
+        walk = leave(walk, stops, here.is_broken, last + 1);
+        // asleep it keeps its PC
+        let there = Place {
+            place: walk.place() - 1,
+            ..here
+        };
         walk = to_boundary(walk, stops.watches(), from);
-        found = found_before(here, begin, walk.stretch(), seek, found);
-        walk = over_sleep(walk, stops, from);
+        found = found_before(there, begin, walk.stretch(), seek, found);
         here = place_here(&walk, stops);
         distance = leave_near(track, &walk, last, distance);
     }
     found
 }
 
-// Goes to the next boundary, or up to a place.
-fn to_boundary<'a, D: Digest32>(mut walk: Walk<'a, D>, watches: &[Watch], end: u64) -> Walk<'a, D>
+// Makes one step; where nothing stops a device there and it sleeps, more of sleep before it.
+fn leave<'a, D: Digest32>(
+    walk: Walk<'a, D>,
+    stops: &StopList,
+    is_broken: bool,
+    end: u64,
+) -> Walk<'a, D>
     requires more { place_of walk < end }
     requires few { end ≤ most_steps }
     ensures walks { (run : Run)
         → Walks D.hash run walk.entry
         → Walks D.hash run result }
     ensures within { (place_of walk.entry < place_of result) × (place_of result ≤ end) }
+    ensures one { is_broken ≡ true → place_of result ≡ place_of walk.entry + 1 }
     ensures stretch { OfWalk D.hash walk.entry (λ run place.
         (((sight_at run place).boundary ≡ true)
-        ⊎ IsStretch watches.now run place walk.entry.stretch)
+        ⊎ IsStretch stops.now.watches run place walk.entry.stretch)
+        → IsStretch stops.now.watches run (place_of result) result.stretch) }
+    ensures silent { OfWalk D.hash walk.entry (λ run place.
+        AreSilent run place (place_of result - 1)) }
+    ensures passed { OfWalk D.hash walk.entry (λ run place.
+        (((sight_at run place).boundary ≡ true)
+        ⊎ IsStretch stops.now.watches run place walk.entry.stretch)
+        → ArePassed stops.now true run place (place_of result)) }
+{
+    if is_broken {
+        walk.step(stops.watches())
+    } else {
+        walk.play_row(&Passing::new(stops, true), end)
+    }
+}
+
+// Goes on to a boundary, or up to a place.
+fn to_boundary<'a, D: Digest32>(mut walk: Walk<'a, D>, watches: &[Watch], end: u64) -> Walk<'a, D>
+    requires within { place_of walk ≤ end }
+    requires few { end ≤ most_steps }
+    ensures walks { (run : Run)
+        → Walks D.hash run walk.entry
+        → Walks D.hash run result }
+    ensures within { (place_of walk.entry ≤ place_of result) × (place_of result ≤ end) }
+    ensures stretch { OfWalk D.hash walk.entry (λ run place.
+        IsStretch watches.now run place walk.entry.stretch
         → IsStretch watches.now run (place_of result) result.stretch) }
     ensures passes_none { OfWalk D.hash walk.entry (λ run place. (at : ℕ)
-        → place < at → at < place_of result → (sight_at run at).boundary ≡ false) }
+        → place ≤ at → at < place_of result → (sight_at run at).boundary ≡ false) }
     ensures ends { OfWalk D.hash walk.entry (λ run place.
         (place_of result ≡ end) ⊎ ((sight_at run (place_of result)).boundary ≡ true)) }
-    ensures kept { HasStepped result.live }
 {
-    walk = walk.step(watches);
     while !walk.is_at_boundary() && walk.place() < end {
         walk = walk.step(watches);
     }
@@ -152,29 +188,6 @@ fn leave_near<'a, D: Digest32>(
     distance / 8
 }
 
-// Goes on over steps of sleep behind a first one, up to a place.
-fn over_sleep<'a, D: Digest32>(walk: Walk<'a, D>, stops: &StopList, end: u64) -> Walk<'a, D>
-    requires few { end ≤ most_steps }
-    requires stepped { HasStepped walk.live }
-    ensures walks { (run : Run)
-        → Walks D.hash run walk.entry
-        → Walks D.hash run result }
-    ensures within { (place_of walk.entry ≤ place_of result)
-        × (place_of result ≤ max end (place_of walk.entry)) }
-    ensures tells { OfWalk D.hash walk.entry (λ run place.
-        TellsCause stops.now true run place walk.entry.stretch
-        → TellsCause stops.now true run (place_of result) result.stretch) }
-    ensures passed { OfWalk D.hash walk.entry (λ run place.
-        TellsCause stops.now true run place walk.entry.stretch
-        → ArePassed stops.now true run place (place_of result)) }
-{
-    if walk.live().entry().kind == Kind::Idle {
-        walk.make_quiet_steps(&Passing::new(stops, true), end)
-    } else {
-        walk
-    }
-}
-
 fn place_here<D: Digest32>(walk: &Walk<'_, D>, stops: &StopList) -> Place
     ensures place { result.place ≡ place_of walk.now }
     ensures pc { OfWalk D.hash walk.now (λ run place.
@@ -192,17 +205,8 @@ fn place_here<D: Digest32>(walk: &Walk<'_, D>, stops: &StopList) -> Place
     }
 }
 
-// Why a device that goes back stops at a place, before this stretch.
-fn cause_before(here: Place, stretch: &Stretch, seek: &Seek) -> Option<(u64, Stop)>
-    ensures { result ≡ stop_with_place here.place (stop_of stretch.now.last_hit here.is_broken
-        (steps_by (step_in seek.now) stretch.now here.pc) (refusal_or stretch.now.refused None)) }
-{
-    let is_step = seek.is_step(stretch, here.pc);
-    let stop = stop_of(stretch.last_hit, here.is_broken, is_step, stretch.refusal())?;
-    Some((here.place, stop))
-}
-
-// Likewise with those that were found before it, where it is not where the way begins.
+// The cause at a place behind the one where the way begins, before this stretch; else what was
+// found before.
 fn found_before(
     here: Place,
     begin: u64,
@@ -211,14 +215,12 @@ fn found_before(
     found: Option<(u64, Stop)>,
 ) -> Option<(u64, Stop)>
     ensures { result ≡ (if nat_lt begin here.place
-        then option_or (stop_with_place here.place (stop_of stretch.now.last_hit here.is_broken
-        (steps_by (step_in seek.now) stretch.now here.pc) (refusal_or stretch.now.refused None)))
-        found
+        then option_or (stop_with_place here.place
+        (cause_before (step_in seek.now) stretch.now here.is_broken here.pc)) found
         else found) }
 {
-    if here.place > begin {
-        cause_before(here, stretch, seek).or(found)
-    } else {
-        found
+    match cause_before(stretch, seek, here.is_broken, here.pc) {
+        Some(stop) if begin < here.place => Some((here.place, stop)),
+        _ => found,
     }
 }

@@ -137,7 +137,8 @@ impl<'a, D: Digest32> Debugger<'a, D> {
         interrupts: &mut I,
         packets: &mut PacketWriter<W>,
     ) -> Result<Connection, AnswerFault>
-        ensures gives { MayGive D.hash W.Sink packets.old packets.new self.old self.new
+        ensures gives { MayGive D.hash W.Sink (I.left interrupts.old) (I.left interrupts.new)
+            packets.old packets.new self.old self.new
             (λ interrupt session. goes (view_in D.hash self.old) interrupt session way going)
             result }
         ensures counts { CountsWriteFaults W.faults packets.old.sink packets.new.sink result }
@@ -210,14 +211,15 @@ impl<'a, D: Digest32> Debugger<'a, D> {
         self.say(b"OK", packets)
     }
 
-    /// Answers a command; an interrupt ends only the way of a device that goes.
+    /// Answers a command; an interrupt that has come ends only the way of a device that goes.
     pub fn answer<I: Interrupts, W: Sink + Drop>(
         &mut self,
         command: Command,
         interrupts: &mut I,
         packets: &mut PacketWriter<W>,
     ) -> Result<Connection, AnswerFault>
-        ensures gives { MayGive D.hash W.Sink packets.old packets.new self.old self.new
+        ensures gives { MayGive D.hash W.Sink (I.left interrupts.old) (I.left interrupts.new)
+            packets.old packets.new self.old self.new
             (λ interrupt session. answer_of (view_in D.hash self.old) interrupt session command)
             result }
         ensures counts { CountsWriteFaults W.faults packets.old.sink packets.new.sink result }

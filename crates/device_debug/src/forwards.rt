@@ -1,9 +1,9 @@
-ghost use Rattle.std.specs.Prelude.{◌≡◌, ◌<◌, ◌≤◌, ◌⊎◌, ◌++◌, ◌-◌, ◌+◌, ℕ, [], Option, codes, IfOk, None, false, is_some, suc, true, if◌then◌else◌};
-ghost use Rattle.debug_session.specs.{Request.most_steps, Cause.{cause, refusal_or, told_rule}, Going.{first_stop, interrupted}, Place.{Run, sight_at, view_of}};
-ghost use Rattle.debug_link.specs.{Console.console, Writing.{CountsWriteFaults, PutsPackets}};
-ghost use Rattle.debug_walk.specs.{Copies.TrackStandsFor, Walk.{OfWalk, TellsCause, Walks, place_of}, Passing.{ArePassed, AreSilent}};
-ghost use Rattle.device_core.specs.Device.{HasStepped};
-ghost use Rattle.device_debug.specs.{Going.{GoesOn, StandsAt}, Ahead.{is_asked, last_boundary, place_past, refused_at, seek_ahead}, Seek.step_in};
+ghost use Rattle.std.specs.Prelude.{◌≡◌, ◌<◌, ◌≤◌, ◌⊎◌, ◌++◌, ◌-◌, ◌+◌, ℕ, [], Option, codes, IfOk, None, is_some, suc, if◌then◌else◌};
+ghost use Rattle.debug_session.specs.{Request.most_steps, Cause.{cause, refusal_or}, Going.{first_stop, interrupted}, Place.{Run, sight_at, view_of}};
+ghost use Rattle.debug_link.specs.{Console.console, Conversation.{HaveCome, count_of}, Writing.{CountsWriteFaults, PutsPackets}};
+ghost use Rattle.debug_walk.specs.{Copies.TrackStandsFor, Walk.{OfWalk, Walks, place_of}};
+ghost use Rattle.device_core.specs.{Device.HasStepped, StepLine.rule_in_line};
+ghost use Rattle.device_debug.specs.{Going.{GoesOn, StandsAt, StopsBefore}, Ahead.{last_boundary, place_past, refused_at, seek_ahead}, Seek.step_in};
 ghost use Rattle.printed_lines.specs.Line.{reset_line};
 
 use crate::grown_text::{GrownText, memory_result};
@@ -34,7 +34,9 @@ pub fn go_forwards<'a, D: Digest32, I: Interrupts, W: Sink + Drop>(
     ensures goes_on { (run : Run) (place : ℕ)
         → TrackStandsFor D.hash track.old run
         → StandsAt D.hash run place walk.entry
-        → (interrupt : Option ℕ) × GoesOn D.hash W.Sink packets.old packets.new run place
+        → (interrupt : Option ℕ)
+        × HaveCome (count_of interrupt) (I.left interrupts.old) (I.left interrupts.new)
+        × GoesOn D.hash W.Sink packets.old packets.new run place
         (interrupted (view_of run) place interrupt
         (first_stop (cause (view_of run) stops.now (seek_ahead (step_in seek.now))) place
         (most_steps - place))) result }
@@ -46,6 +48,7 @@ pub fn go_forwards<'a, D: Digest32, I: Interrupts, W: Sink + Drop>(
     ensures counts { CountsWriteFaults W.faults packets.old.sink packets.new.sink result }
 {
     let from = walk.place();
+    let passing = Passing::new(stops, seek.is_for_step());
     let mut look = Look::new(from);
     let mut waiting = WaitingLines::new(track.alloc());
     while walk.place() < MOST_STEPS {
@@ -54,17 +57,12 @@ pub fn go_forwards<'a, D: Digest32, I: Interrupts, W: Sink + Drop>(
         }
         track.copies.leave(&walk);
         let next = track.copies.next().min(look.next());
-        let end = pass_end(&walk, &waiting, next);
-        walk = pass(walk, stops, seek, end);
-        if let Some((at, rule)) = refused_behind(track, &walk, from)? {
-            tell_refusal(track.alloc(), walk.place() - 1, rule, packets)?;
-            return Ok((track.walk_to(at)?, Stop::Refused(rule)));
+        let end = row_end(&walk, &waiting, next);
+        walk = walk.play_row(&passing, end);
+        if let Some(stopped) = stop_before(track, &walk, from, packets)? {
+            return Ok(stopped);
         }
         waiting.tell_step(&walk, packets)?;
-        if let Some(stop) = cause_here(&walk, stops, seek) {
-            return Ok((walk, stop));
-        }
-        walk = walk_quietly(walk, stops, seek, &waiting, next);
         if let Some(stop) = cause_here(&walk, stops, seek) {
             return Ok((walk, stop));
         }
@@ -74,7 +72,7 @@ pub fn go_forwards<'a, D: Digest32, I: Interrupts, W: Sink + Drop>(
 }
 
 // How far a device may go: to where a copy or a look is due; where lines wait, to the next step.
-fn pass_end<D: Digest32>(walk: &Walk<'_, D>, waiting: &WaitingLines, next: u64) -> u64
+fn row_end<D: Digest32>(walk: &Walk<'_, D>, waiting: &WaitingLines, next: u64) -> u64
     requires few { place_of walk.now < most_steps }
     ensures more { place_of walk.now < result }
     ensures within { result ≤ most_steps }
@@ -87,88 +85,31 @@ fn pass_end<D: Digest32>(walk: &Walk<'_, D>, waiting: &WaitingLines, next: u64) 
     }
 }
 
-// One step, which is looked at; where nothing is asked, more up to a line.
-fn pass<'a, D: Digest32>(walk: Walk<'a, D>, stops: &StopList, seek: &Seek, end: u64) -> Walk<'a, D>
-    requires more { place_of walk < end }
-    requires few { end ≤ most_steps }
-    ensures walks { (run : Run)
-        → Walks D.hash run walk.entry
-        → Walks D.hash run result }
-    ensures within { (place_of walk.entry < place_of result) × (place_of result ≤ end) }
-    ensures silent { OfWalk D.hash walk.entry (λ run place.
-        AreSilent run place (place_of result - 1)) }
-    ensures unasked { (is_asked stops.now (step_in seek.now) ≡ false)
-        ⊎ (place_of result ≡ place_of walk.entry + 1) }
-    ensures tells { OfWalk D.hash walk.entry (λ run place.
-        (((sight_at run place).boundary ≡ true)
-        ⊎ TellsCause stops.now (is_some (step_in seek.now)) run place walk.entry.stretch)
-        → TellsCause stops.now (is_some (step_in seek.now)) run (place_of result)
-        result.stretch) }
-{
-    if is_asked(stops, seek) {
-        walk.step(stops.watches())
-    } else {
-        walk.play(end)
-    }
-}
-
-// Steps in a row behind it, up to where a copy or a look is due; none where one is due already, or
-// lines wait.
-fn walk_quietly<'a, D: Digest32>(
-    walk: Walk<'a, D>,
-    stops: &StopList,
-    seek: &Seek,
-    waiting: &WaitingLines,
-    next: u64,
-) -> Walk<'a, D>
-    requires few { place_of walk ≤ most_steps }
-    ensures walks { (run : Run)
-        → Walks D.hash run walk.entry
-        → Walks D.hash run result }
-    ensures within { (place_of walk.entry ≤ place_of result) × (place_of result ≤ most_steps) }
-    ensures waits { (waiting.now ≡ []) ⊎ (place_of result ≡ place_of walk.entry) }
-    ensures tells { OfWalk D.hash walk.entry (λ run place.
-        TellsCause stops.now (is_some (step_in seek.now)) run place walk.entry.stretch
-        → TellsCause stops.now (is_some (step_in seek.now)) run (place_of result)
-        result.stretch) }
-    ensures passed { OfWalk D.hash walk.entry (λ run place.
-        TellsCause stops.now (is_some (step_in seek.now)) run place walk.entry.stretch
-        → ArePassed stops.now (is_some (step_in seek.now)) run place (place_of result)) }
-{
-    if !is_asked(stops, seek) || !waiting.is_empty() {
-        return walk;
-    }
-    let end = next.max(walk.place()).min(MOST_STEPS);
-    walk.make_quiet_steps(&Passing::new(stops, seek.is_for_step()), end)
-}
-
-// Whether a step, a breakpoint, a watch or a number of steps is looked for.
-fn is_asked(stops: &StopList, seek: &Seek) -> bool
-    ensures { result ≡ is_asked stops.now (step_in seek.now) }
-{
-    seek.is_for_step() || !stops.is_empty()
-}
-
-// Where a device stops before its last step, if that was refused, and the rule.
-fn refused_behind<D: Digest32>(
-    track: &Track<'_, D>,
-    walk: &Walk<'_, D>,
+// Where the last step was refused, a device stops before it, at a boundary; that is told.
+fn stop_before<'a, D: Digest32, W: Sink + Drop>(
+    track: &Track<'a, D>,
+    walk: &Walk<'a, D>,
     from: u64,
-) -> Result<Option<(u64, Rule)>, AllocError>
+    packets: &mut PacketWriter<W>,
+) -> Result<Option<(Walk<'a, D>, Stop)>, AnswerFault>
     requires stepped { 0 < place_of walk.now }
     requires few { place_of walk.now ≤ most_steps }
-    ensures { (run : Run)
+    ensures stops { (run : Run)
         → TrackStandsFor D.hash track.now run
         → Walks D.hash run walk.now
-        → IfOk result (λ found. found ≡ refused_at (view_of run) from (place_of walk.now - 1)) }
+        → StopsBefore D.hash W.Sink packets.old packets.new run (place_of walk.now - 1)
+        (refused_at (view_of run) from (place_of walk.now - 1)) result }
+    ensures counts { CountsWriteFaults W.faults packets.old.sink packets.new.sink result }
 {
-    match refusal_of(walk) {
-        Some(rule) => {
-            let at = last_boundary(track, walk.place() - 1, from)?;
-            Ok(at.map(|at| (at, rule)))
-        }
-        None => Ok(None),
-    }
+    let step = walk.place() - 1;
+    let Some(rule) = refusal_of(walk) else {
+        return Ok(None);
+    };
+    let Some(at) = last_boundary(track, step, from)? else {
+        return Ok(None);
+    };
+    tell_refusal(track.alloc(), step, rule, packets)?;
+    Ok(Some((track.walk_to(at)?, Stop::Refused(rule))))
 }
 
 // The rule by which the last step was refused, if it is told.
@@ -178,20 +119,24 @@ fn refusal_of<D: Digest32>(walk: &Walk<'_, D>) -> Option<Rule>
         → place ≡ before + 1
         → result ≡ refusal_or (sight_at run before).next.refused None) }
 {
-    match walk.live().line() {
-        Some(StepLine::Reset(rule)) => told_rule(rule),
-        Some(StepLine::Sent(_)) => None,
-        Some(StepLine::Report(_)) => None,
-        Some(StepLine::Denied(_)) => None,
+    told_rule(broken_rule(walk.live().line()))
+}
+
+fn broken_rule(line: Option<StepLine<'_>>) -> Option<Rule>
+    ensures { result ≡ rule_in_line line.entry }
+{
+    match line {
+        Some(StepLine::Reset(rule)) => Some(rule),
+        Some(StepLine::Sent(_)) | Some(StepLine::Report(_)) | Some(StepLine::Denied(_)) => None,
         None => None,
     }
 }
 
 // The script's reset stops nothing.
-fn told_rule(rule: Rule) -> Option<Rule>
-    ensures { result ≡ told_rule rule }
+fn told_rule(rule: Option<Rule>) -> Option<Rule>
+    ensures { result ≡ refusal_or rule None }
 {
-    Some(rule).filter(|rule| *rule != Rule::X0)
+    rule.filter(|rule| *rule != Rule::X0)
 }
 
 // The last boundary up to a place, if no step since was refused and it lies behind another place.

@@ -1,6 +1,13 @@
 /// What may interrupt a device on its way.
 pub trait Interrupts {
+    ghost use Rattle.std.specs.Prelude.{◌≡◌, ◌+◌, ℕ, Option, option_map};
+    ghost use Rattle.device_debug.specs.Interrupts.{one_if};
+
+    /// How many come yet, if that is told.
+    ghost left: { Self → Option ℕ };
+
     /// Whether an interrupt has come since this was asked last. It is asked every some ten thousand
     /// steps while a device is on its way, and must not wait.
-    fn have_come(&mut self) -> bool;
+    fn have_come(&mut self) -> bool
+        ensures { left self.old ≡ option_map (λ yet. one_if result + yet) (left self.new) };
 }

@@ -1,8 +1,8 @@
 //! A debugger's view of a play: GDB drives the device, forwards and backwards.
 //!
-//! A [`RunDebugger`] stands at a place of a run, which is a number of steps, and answers the packets
-//! of GDB: what is shown are the registers, bytes and flags after these steps, and only the place,
-//! the breakpoints, the watches and `until` change by what is asked.
+//! A [`RunDebugger`] stands at a place of a run, which is a number of steps, and answers the
+//! packets of GDB: what is shown are the registers, bytes and flags after these steps, and only the
+//! place, the breakpoints, the watches and `until` change by what is asked.
 #![tactic(auto)]
 
 mod backwards;

@@ -1,6 +1,8 @@
-ghost use Rattle.std.specs.Prelude.{◌≡◌, true};
+ghost use Rattle.std.specs.Prelude.{◌≡◌, ℕ, Option, false, true};
 ghost use Rattle.debug_session.specs.Place.{sight_at};
+ghost use Rattle.debug_link.specs.Conversation.{HaveCome};
 ghost use Rattle.debug_walk.specs.Walk.{OfWalk};
+ghost use Rattle.device_debug.specs.Interrupts.{one_if};
 
 use crate::interrupts::Interrupts;
 use debug_walk::Walk;
@@ -18,7 +20,9 @@ pub struct Look {
 
 impl Look {
     /// At the beginning of a way.
-    pub fn new(place: u64) -> Look {
+    pub fn new(place: u64) -> Look
+        ensures { result.has_come ≡ false }
+    {
         Look {
             last: place,
             has_come: false,
@@ -34,19 +38,32 @@ impl Look {
         }
     }
 
-    /// Looks where it is due; whether an interrupt ends the way here, at a boundary.
+    // Looks where it is due, until one has come.
+    fn look<I: Interrupts>(&mut self, interrupts: &mut I, place: u64)
+        ensures { (before : Option ℕ)
+            → HaveCome (one_if self.old.has_come) before (I.left interrupts.old)
+            → HaveCome (one_if self.new.has_come) before (I.left interrupts.new) }
+    {
+        if !self.has_come && place >= self.next() {
+            self.last = place;
+            self.has_come = interrupts.have_come();
+        }
+    }
+
+    /// Looks where it is due; whether an interrupt that has come ends the way here, at a boundary.
     pub fn ends_way<D: Digest32, I: Interrupts>(
         &mut self,
         interrupts: &mut I,
         walk: &Walk<'_, D>,
     ) -> bool
-        ensures { OfWalk D.hash walk.now (λ run place.
+        ensures boundary { OfWalk D.hash walk.now (λ run place.
             result ≡ true → (sight_at run place).boundary ≡ true) }
+        ensures found { result ≡ true → self.new.has_come ≡ true }
+        ensures came { (before : Option ℕ)
+            → HaveCome (one_if self.old.has_come) before (I.left interrupts.old)
+            → HaveCome (one_if self.new.has_come) before (I.left interrupts.new) }
     {
-        if !self.has_come && walk.place() >= self.next() {
-            self.last = walk.place();
-            self.has_come = interrupts.have_come();
-        }
+        self.look(interrupts, walk.place());
         self.has_come && walk.is_at_boundary()
     }
 }

@@ -1,4 +1,4 @@
-ghost use Rattle.std.specs.Prelude.{IfOk};
+ghost use Rattle.std.specs.Prelude.{◌≡◌, IfOk};
 ghost use Rattle.debug_session.specs.Session.{first_session};
 ghost use Rattle.debug_walk.specs.PlayedRun.{played_run};
 ghost use Rattle.device_debug.specs.Session.{StandsInRun};
@@ -26,7 +26,7 @@ impl<'a, D: Digest32, I: Interrupts + Drop> RunDebugger<'a, D, I> {
         run: Run<'a>,
         interrupts: I,
     ) -> Result<RunDebugger<'a, D, I>, AllocError>
-        ensures { IfOk result (λ it. StandsInRun D.hash it
+        ensures { IfOk result (λ it. (it.interrupts ≡ interrupts) × StandsInRun D.hash it
             (record { run = played_run D.hash run.entry; session = first_session })) }
     {
         let debugger = Debugger::new(alloc, run)?;
@@ -47,6 +47,8 @@ impl<D: Digest32, I: Interrupts + Drop> Answerer for RunDebugger<'_, D, I> {
 
     // The place at which it stops.
     ghost Interrupt = { ℕ };
+
+    ghost left = { λ it. I.left it.interrupts };
 
     ghost reply = { run_reply };
 

@@ -1,7 +1,7 @@
 ghost use Rattle.std.specs.Prelude.{◌≡◌, [], is_some};
 ghost use Rattle.debug_session.specs.{declared.command.Way.TheVariants.Ahead, Cause.{behind, cause_here, stop_of}, Going.step_of, Place.{sight_at, view_of}};
 ghost use Rattle.debug_walk.specs.Walk.{OfWalk, TellsCause};
-ghost use Rattle.device_debug.specs.Seek.{step_in, steps_by};
+ghost use Rattle.device_debug.specs.Seek.{cause_before, step_in, steps_by};
 
 use bus_signals::Rule;
 use debug_session::{Going, Hit, Stop, StopList};
@@ -49,14 +49,9 @@ impl Seek {
     }
 }
 
-/// Why a device stops at a boundary: a watch goes before breakpoint and number of steps, these
-/// before a step, and that before a refusal.
-pub fn stop_of(
-    hit: Option<Hit>,
-    is_broken: bool,
-    is_step: bool,
-    refusal: Option<Rule>,
-) -> Option<Stop>
+// Why a device stops at a boundary: a watch goes before breakpoint and number of steps, these
+// before a step, and that before a refusal.
+fn stop_of(hit: Option<Hit>, is_broken: bool, is_step: bool, refusal: Option<Rule>) -> Option<Stop>
     ensures { result ≡ stop_of hit is_broken is_step refusal }
 {
     if let Some(hit) = hit {
@@ -84,4 +79,12 @@ pub fn cause_here<D: Digest32>(walk: &Walk<'_, D>, stops: &StopList, seek: &Seek
     let stretch = walk.stretch();
     let is_step = seek.is_step(stretch, walk.pc());
     stop_of(stretch.first_hit, walk.is_broken(stops), is_step, None)
+}
+
+/// Why a device that goes back stops before a stretch, at a place with this PC.
+pub fn cause_before(stretch: &Stretch, seek: &Seek, is_broken: bool, pc: u16) -> Option<Stop>
+    ensures { result ≡ cause_before (step_in seek.now) stretch.now is_broken pc }
+{
+    let is_step = seek.is_step(stretch, pc);
+    stop_of(stretch.last_hit, is_broken, is_step, stretch.refusal())
 }

@@ -62,7 +62,8 @@ impl StepText {
         ensures { (run : Run)
             → LiveStandsFor D.hash second_flag live.now run.start
             (play_of run.events_at (suc step))
-            → Puts ⟦<GrownText as Sink>⟧.stands text.old text.new (text_in self (step_sight run step)) result }
+            → Puts ⟦<GrownText as Sink>⟧.stands text.old text.new
+            (text_in self (step_sight run step)) result }
     {
         match self {
             StepText::Lines => print_last_step(step, live, text),

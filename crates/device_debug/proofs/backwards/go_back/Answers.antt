@@ -1,16 +1,25 @@
 use Rattle.std.proofs.Common.{◌≡◌, ◌≤◌, ◌<◌, ◌∙◌, ⊎_elim, subst, sym, arith}
 use Rattle.debug_session.specs.Request.{most_steps}
+use Rattle.debug_link.proofs.Interrupts.{none-came}
 use Rattle.debug_walk.specs.Walk.{place_of}
 use Rattle.device_debug.specs.Seek.{step_in}
-use Rattle.device_debug.proofs.{Arrived.{back-begun, back-found, back-interrupted, back-none}, Back.{NoneBehind, none-further}}
+use Rattle.device_debug.proofs.{Arrived.{back-begun, back-found, back-interrupted, back-none}, Back.{NoneBehind, none-further}, Found.{found-one, looked-again, some-came}}
 use Rattle.device_debug.proofs.backwards.go_back.Goals as goal
 
 pub returns-then-end-le1-clause-goes : goal.returns-then-end-le1-clause-goes
 returns-then-end-le1-clause-goes g c = λ run from track stands.
     back-begun g.D.Digest32.hash run c.args.stops.now (step_in c.args.seek.now) from
-    c.min-end.result (omega (arith, c.min-end.ensures, c.place.ensures, stands.place_is, stands.within)) c.in_ok-first.field-0
+    c.min-end.result
+    (omega (arith, c.min-end.ensures, c.place.ensures, stands.place_is, stands.within)) _ _
+    c.in_ok-first.field-0 (none-came _)
     (omega (arith, c.if-end-le1.true)) (c.in_ok-first.ensures.begins run track)
     c.in_ok-first.ensures.place
+
+pub returns-in_err-first-clause-came : goal.returns-in_err-first-clause-came
+returns-in_err-first-clause-came g c = none-came _
+
+pub returns-then-end-le1-clause-came : goal.returns-then-end-le1-clause-came
+returns-then-end-le1-clause-came g c = none-came _
 
 pub returns-in_err-near-clause-stays : goal.returns-in_err-near-clause-stays
 returns-in_err-near-clause-stays g c = λ run track.
@@ -30,10 +39,11 @@ returns-in-Some-clause-goes g c = λ run from track stands.
     let begun = c.in_ok-near.ensures.begins run near in
     let within : c.min-end.result ≤ most_steps = omega (arith, c.min-end.ensures) in
     let before = c.loop-walk.invariant.before in
-    let piece = c.in-Some.ensures.found run begun c.in_ok-near.ensures.before before in
+    let piece = c.in-Some.ensures.found run begun c.in_ok-near.ensures.before in
     back-found g.D.Digest32.hash run stops step from c.min-end.result
-    (omega (arith, c.min-end.ensures, c.place.ensures, stands.place_is, stands.within)) c.in_ok-walk_to.field-0 (place_of c.in_ok-near.near)
-    c.loop-walk.last c.in-Some.place c.in-Some.stop within before piece
+    (omega (arith, c.min-end.ensures, c.place.ensures, stands.place_is, stands.within)) _ _
+    c.in_ok-walk_to.field-0 (place_of c.in_ok-near.near) c.loop-walk.last c.in-Some.place
+    c.in-Some.stop c.loop-walk.invariant.came within before piece
     (c.loop-walk.invariant.none run track)
     (c.in_ok-walk_to.ensures run
     (c.last_cause.ensures.stays run begun.walks (c.in_ok-near.ensures.stays run near))
@@ -59,13 +69,14 @@ returns-then-begin-eq0-clause-goes g c = λ run from track stands.
     let begun = c.in_ok-near.ensures.begins run near in
     let last = c.loop-walk.last in
     let place = place_of c.in_ok-near.near in
-    let track-there = c.last_cause.ensures.stays run begun.walks (c.in_ok-near.ensures.stays run near) in
+    let track-there =
+    c.last_cause.ensures.stays run begun.walks (c.in_ok-near.ensures.stays run near) in
     back-none g.D.Digest32.hash run stops step from c.min-end.result
-    (omega (arith, c.min-end.ensures, c.place.ensures, stands.place_is, stands.within)) c.in_ok-first-2.field-0 place
+    (omega (arith, c.min-end.ensures, c.place.ensures, stands.place_is, stands.within)) _ _
+    c.in_ok-first-2.field-0 place c.loop-walk.invariant.came
     (omega (arith, c.place-begin.ensures, c.if-begin-eq0.true))
     (none-further run stops step c.min-end.result place last
-    (c.in_default.ensures.found run begun c.in_ok-near.ensures.before
-    c.loop-walk.invariant.before)
+    (c.in_default.ensures.found run begun c.in_ok-near.ensures.before)
     (c.loop-walk.invariant.none run track))
     (c.in_ok-first-2.ensures.begins run track-there) c.in_ok-first-2.ensures.place
 
@@ -107,19 +118,27 @@ loop-walk-preserved g c =
           subst (NoneBehind run stops step c.min-end.result) (sym c.place-begin.ensures)
           (none-further run stops step c.min-end.result place last
           (c.in_default.ensures.found run (c.in_ok-near.ensures.begins run near)
-          c.in_ok-near.ensures.before c.loop-walk.invariant.before)
+          c.in_ok-near.ensures.before)
           (c.loop-walk.invariant.none run track));
+      came = some-came _ _ _
+          (looked-again _ _ _ _ c.have_come.ensures c.loop-walk.invariant.came);
     }
 
 pub returns-then-have_come-clause-goes : goal.returns-then-have_come-clause-goes
 returns-then-have_come-clause-goes g c = λ run from track stands.
     back-interrupted g.D.Digest32.hash run c.args.stops.now (step_in c.args.seek.now) from
     c.min-end.result
-    (omega (arith, c.min-end.ensures, c.place.ensures, stands.place_is, stands.within))
-    c.args.walk stands
+    (omega (arith, c.min-end.ensures, c.place.ensures, stands.place_is, stands.within)) _ _
+    c.args.walk
+    (found-one _ _ _ c.if-have_come.true
+    (looked-again _ _ _ _ c.have_come.ensures c.loop-walk.invariant.came)) stands
 
 pub returns-then-have_come-clause-stays : goal.returns-then-have_come-clause-stays
 returns-then-have_come-clause-stays g c = λ run track.
     let near = c.loop-walk.invariant.stays run track in
     c.last_cause.ensures.stays run (c.in_ok-near.ensures.begins run near).walks
     (c.in_ok-near.ensures.stays run near)
+
+pub returns-then-have_come-clause-came : goal.returns-then-have_come-clause-came
+returns-then-have_come-clause-came g c =
+    some-came _ _ _ (looked-again _ _ _ _ c.have_come.ensures c.loop-walk.invariant.came)

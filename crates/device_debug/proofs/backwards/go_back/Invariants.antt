@@ -1,5 +1,6 @@
 use Rattle.std.proofs.Common.{◌≡◌, ◌≤◌, ◌<◌, ℕ}
 use Rattle.debug_session.specs.Place.{Run}
+use Rattle.debug_link.specs.Conversation.{HaveCome}
 use Rattle.debug_walk.specs.Copies.{TrackStandsFor}
 use Rattle.device_debug.specs.Seek.{step_in}
 use Rattle.device_debug.proofs.Back.{NoneBehind}
@@ -14,6 +15,7 @@ invariant-loop-walk g l =
       stays : (run : Run) → TrackStandsFor hash l.fn.track run → TrackStandsFor hash l.track run;
       none : (run : Run) → TrackStandsFor hash l.fn.track run
           → NoneBehind run l.stops (step_in l.seek) l.end l.last;
+      came : HaveCome 0 (g.I.Interrupts.left l.fn.interrupts) (g.I.Interrupts.left l.interrupts);
     }
 
 abbrev pub decreases-loop-walk : goal.decreases-loop-walk

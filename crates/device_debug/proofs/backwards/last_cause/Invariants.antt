@@ -11,10 +11,11 @@ invariant-loop-here g l =
     record {
       same_run : l.track.run ≡ l.fn.track.run;
       begin_is : l.begin ≡ place_of l.fn.walk;
+      place_is : l.here.place ≡ place_of l.walk;
       stays : (run : Run) → Walks hash run l.fn.walk
           → Walks hash run l.walk
           × (TrackStandsFor hash l.fn.track run → TrackStandsFor hash l.track run);
-      looks : (run : Run) → IsBegun hash run l.fn.walk → IsBefore l.last l.fn.walk → l.last < l.from
+      looks : (run : Run) → IsBegun hash run l.fn.walk → IsBefore l.last l.fn.walk
           → IsLookingBack hash run l.stops (step_in l.seek) l.from l.begin l.last l.walk
           l.here.place l.here.pc l.here.is_broken l.found;
     }

@@ -7,18 +7,18 @@ use Rattle.device_debug.proofs.backwards.to_boundary.Goals as goal
 pub loop-walk-preserved : goal.loop-walk-preserved
 loop-walk-preserved g c =
     let at = c.loop-walk in
-    let next = c.step-walk-in-loop-walk in
+    let next = c.step-walk in
     record {
       walks = λ run walks. next.ensures.walks run (at.invariant.walks run walks);
       within = (
         omega (arith, at.invariant.within.0, next.ensures.place),
         omega (arith, next.ensures.place, c.if-place-end.true, c.place.ensures),
       );
-      stretch = λ run walks begun.
+      stretch = λ run walks was.
           subst (λ (place : ℕ). IsStretch c.args.watches.now run place next.result.stretch)
           (sym next.ensures.place)
           (next.ensures.stretch run (at.invariant.walks run walks)
-          (inr (at.invariant.stretch run walks begun)));
+          (inr (at.invariant.stretch run walks was)));
       passes_none = λ run walks one past before.
           let here : (sight_at run (place_of at.walk)).boundary ≡ false =
           sym (c.loop-walk-test.ensures run (at.invariant.walks run walks)) in
@@ -29,5 +29,4 @@ loop-walk-preserved g c =
           omega (arith, over, before, next.ensures.place) in
           subst (λ (place : ℕ). (sight_at run place).boundary ≡ false) same here)
           (cases_lt one (place_of at.walk));
-      kept = next.ensures.kept;
     }

@@ -1,12 +1,13 @@
 use Rattle.std.proofs.Common.{◌≡◌, ◌≤◌, ◌-◌}
 use Rattle.debug_session.specs.{Request.most_steps, Place.Run}
+use Rattle.debug_link.specs.Conversation.{HaveCome}
 use Rattle.debug_walk.specs.{Copies.TrackStandsFor, Walk.{Walks, place_of}}
-use Rattle.device_debug.specs.{Going.StandsAt, Seek.step_in}
+use Rattle.device_debug.specs.{Going.StandsAt, Interrupts.one_if, Seek.step_in}
 use Rattle.device_debug.proofs.Going.{IsGoing}
 use Rattle.device_debug.proofs.forwards.go_forwards.Given as goal
 
-abbrev pub invariant-loop-look : goal.invariant-loop-look
-invariant-loop-look g l =
+abbrev pub invariant-loop-passing : goal.invariant-loop-passing
+invariant-loop-passing g l =
     let hash = g.D.Digest32.hash in
     record {
       from_is : l.from ≡ place_of l.fn.walk;
@@ -18,7 +19,9 @@ invariant-loop-look g l =
           → StandsAt hash run l.from l.fn.walk
           → IsGoing hash g.W.Sink run l.stops (step_in l.seek) l.from l.fn.packets l.packets
           l.walk l.waiting;
+      came : HaveCome (one_if l.look.has_come) (g.I.Interrupts.left l.fn.interrupts)
+          (g.I.Interrupts.left l.interrupts);
     }
 
-abbrev pub decreases-loop-look : goal.decreases-loop-look
-decreases-loop-look g l = most_steps - place_of l.walk
+abbrev pub decreases-loop-passing : goal.decreases-loop-passing
+decreases-loop-passing g l = most_steps - place_of l.walk

@@ -48,7 +48,8 @@ returns-in_ok-end-in-Play-clause-tells g c = λ run track walks few.
     (texts_from view (text_in Lines) 0 (c.place-place.result - 0) ++ c.as_slice-in-Play.result.now)
     (texts_from view (text_in Lines) 0 place ++ (view place).end_line) c.tell_steps.result
     (λ i. texts_from view (text_in Lines) 0 (count i) ++ end i)
-    (c.tell_steps.ensures.tells run track (omega arith) (omega (arith, few, c.place-place.ensures))))
+    (c.tell_steps.ensures.tells run track (omega arith)
+    (omega (arith, few, c.place-place.ensures))))
 
 pub returns-in-Trace-clause-tells : goal.returns-in-Trace-clause-tells
 returns-in-Trace-clause-tells g c = λ run track walks few.

@@ -12,7 +12,7 @@ returns-in_err-walk-in-Ahead-clause-gives g c =
     let taken = c.take_walk.new.self in
     let rest = c.take_walk.ensures.rest in
     rw c.in-Ahead.is
-    (failed-on hash w c.args.packets.now c.go_forwards.new.packets was
+    (failed-on hash w _ _ c.args.packets.now c.go_forwards.new.packets was
     (record taken { track = c.go_forwards.new.track })
     (λ (interrupt : Option ℕ) (stops : Stops) (place : ℕ).
     interrupted (view_in hash was) place interrupt
@@ -24,14 +24,14 @@ returns-in_err-walk-in-Ahead-clause-gives g c =
     c.args.going c.level.result c.in_ok-walk.ensures.halted
     (ap (λ (one : Debugger g.row.D.Denot). one.track) rest)
     (ap (λ (one : Debugger g.row.D.Denot). one.stops) rest) c.new-seek.ensures c.level.ensures
-    session stands c.args.packets.now c.go_forwards.new.packets
+    session stands _ _ c.args.packets.now c.go_forwards.new.packets
     (Err c.in_err-walk-in-Ahead.field-0.0)
     c.in_err-walk-in-Ahead.ensures.goes_on)
     (c.go_forwards.ensures.same_run ∙ ap (λ (one : Debugger g.row.D.Denot). one.track.run) rest))
 
 pub returns-in_err-walk-in-Back-clause-gives : goal.returns-in_err-walk-in-Back-clause-gives
 returns-in_err-walk-in-Back-clause-gives g c =
-    may-fail _ _ _ _ _ _ _ c.from_residual-in_err-walk-in-Back.ensures.0
+    may-fail _ _ _ _ _ _ _ _ _ c.go_back.ensures.came c.from_residual-in_err-walk-in-Back.ensures.0
     (c.go_back.ensures.same_run
     ∙ ap (λ (one : Debugger g.row.D.Denot). one.track.run) c.take_walk.ensures.rest)
 
@@ -47,7 +47,7 @@ returns-in_ok-walk-in-Ahead-clause-gives g c =
     let end = c.in_ok-walk-in-Ahead.walk in
     let stop = c.in_ok-walk-in-Ahead.stop in
     rw c.in-Ahead.is
-    (went-on hash w was (record taken { track = c.go_forwards.new.track }) c.stand.new.self
+    (went-on hash w _ _ was (record taken { track = c.go_forwards.new.track }) c.stand.new.self
     c.in_ok-walk.walk
     (λ (interrupt : Option ℕ) (stops : Stops) (place : ℕ).
     interrupted (view_in hash was) place interrupt
@@ -65,7 +65,7 @@ returns-in_ok-walk-in-Ahead-clause-gives g c =
     (λ session stands.
     goes-as hash w was c.in_ok-walk.walk taken.track taken.stops (step_in c.new-seek.result)
     c.args.going c.level.result c.in_ok-walk.ensures.halted track_is stops_is c.new-seek.ensures
-    c.level.ensures session stands c.args.packets.now c.go_forwards.new.packets (Ok (end, stop))
+    c.level.ensures session stands _ _ c.args.packets.now c.go_forwards.new.packets (Ok (end, stop))
     c.in_ok-walk-in-Ahead.ensures.goes_on)
     c.stand.ensures.gives)
 
@@ -81,7 +81,8 @@ returns-in_ok-walk-in-Back-clause-gives g c =
     let end = c.in_ok-walk-in-Back.walk in
     let stop = c.in_ok-walk-in-Back.stop in
     rw c.in-Back.is
-    (went-back hash w was (record taken { track = c.go_back.new.track }) c.stand-in-Back.new.self
+    (went-back hash w _ _ was (record taken { track = c.go_back.new.track })
+    c.stand-in-Back.new.self
     c.in_ok-walk.walk
     (λ (interrupt : Option ℕ) (stops : Stops) (place : ℕ).
     interrupted (view_in hash was) place interrupt
@@ -99,6 +100,6 @@ returns-in_ok-walk-in-Back-clause-gives g c =
     (λ session stands.
     goes-back-as hash w was c.in_ok-walk.walk taken.track taken.stops (step_in c.new-seek.result)
     c.args.going c.level.result c.in_ok-walk.ensures.halted track_is stops_is c.new-seek.ensures
-    c.level.ensures session stands end stop
+    c.level.ensures session stands _ _ end stop
     c.in_ok-walk-in-Back.ensures.goes)
     c.stand-in-Back.ensures.gives)

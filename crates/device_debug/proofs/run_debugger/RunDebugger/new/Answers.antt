@@ -1,9 +1,12 @@
-use Rattle.std.proofs.Common.{ap}
+use Rattle.std.proofs.Common.{ap, refl}
 use Rattle.debug_walk.specs.PlayedRun.{played_run}
 use Rattle.device_debug.proofs.run_debugger.RunDebugger.new.Goals as goal
 
 pub returns : goal.returns
 returns g c = (
-  ap (played_run g.D.Digest32.hash) c.in_ok-debugger.ensures.0,
-  c.in_ok-debugger.ensures.1,
+  refl,
+  (
+    ap (played_run g.D.Digest32.hash) c.in_ok-debugger.ensures.0,
+    c.in_ok-debugger.ensures.1,
+  ),
 )

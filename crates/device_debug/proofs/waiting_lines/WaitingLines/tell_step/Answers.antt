@@ -34,8 +34,8 @@ returns-then-is_at_boundary-clause-tells g c = λ run walks.
     let step : ℕ = place_of c.args.walk.now - 1 in
     let made : place_of c.args.walk.now ≡ suc step = omega (arith, c.requires) in
     let here : (sight_at run (suc step)).boundary ≡ true =
-    ap (λ (at : ℕ). (sight_at run at).boundary) (sym made) ∙ sym (c.is_at_boundary.ensures run walks)
-    ∙ c.if-is_at_boundary.true in
+    ap (λ (at : ℕ). (sight_at run at).boundary) (sym made)
+    ∙ sym (c.is_at_boundary.ensures run walks) ∙ c.if-is_at_boundary.true in
     let whole : bodies_of c.keep.new.self
     ≡ bodies_of c.args.self.now ++ step_bodies run step =
     c.in_ok-keep.ensures.waits
@@ -52,8 +52,8 @@ returns-else-is_at_boundary-clause-tells g c = λ run walks.
     let step : ℕ = place_of c.args.walk.now - 1 in
     let made : place_of c.args.walk.now ≡ suc step = omega (arith, c.requires) in
     let away : (sight_at run (suc step)).boundary ≡ false =
-    ap (λ (at : ℕ). (sight_at run at).boundary) (sym made) ∙ sym (c.is_at_boundary.ensures run walks)
-    ∙ c.if-is_at_boundary.false in
+    ap (λ (at : ℕ). (sight_at run at).boundary) (sym made)
+    ∙ sym (c.is_at_boundary.ensures run walks) ∙ c.if-is_at_boundary.false in
     let whole : bodies_of c.keep.new.self
     ≡ bodies_of c.args.self.now ++ step_bodies run step =
     c.in_ok-keep.ensures.waits
