@@ -1,5 +1,5 @@
 -- The run that a debugger is given is that of its files.
-use Rattle.std.proofs.Common.{◌≡◌, ℕ, List, [], refl, subst, arith}
+use Rattle.std.proofs.Common.{◌≡◌, ℕ, List, [], Option, refl, subst, arith}
 use Rattle.std.proofs.lemmas.List.{append-nil}
 use Rattle.hmac_core.specs.Hash.{Hash}
 use Rattle.mem_map.specs.{Image.{byte_in, image_byte}, declared.image.Image.Image}
@@ -10,11 +10,12 @@ use Rattle.outside_edge.specs.declared.source.Source as source
 use Rattle.source_server.specs.declared.halt.Halt.TheVariants as halt
 use Rattle.source_server.specs.{declared.served.Served.TheVariants.Own, Serving.Serves}
 use Rattle.source_server.proofs.ServedPieces.{none_served}
-use Rattle.debug_link.specs.{Serving.talk_promise, declared.talk_end.TalkEnd.TheVariants.Memory}
+use Rattle.debug_link.specs.{declared.talk_end.TalkEnd.TheVariants.Memory}
+use Rattle.debug_link.proofs.Interrupts.{may-come, none-came}
 use Rattle.debug_session.specs.Place.{Run}
 use Rattle.debug_walk.specs.{PlayedRun.played_run, Walk.second_flag, declared.run.Run.Run as GivenRun}
-use Rattle.device_debug.specs.{Session.{StandsInRun, run_reply}, declared.run_debugger.RunDebugger.RunDebugger}
-use Rattle.debug_cli.specs.Begun.{first_of}
+use Rattle.device_debug.specs.{Session.StandsInRun, declared.run_debugger.RunDebugger.RunDebugger}
+use Rattle.debug_cli.specs.{Begun.first_of, Session.debug_promise}
 
 -- the run of these files, by any digest
 abbrev pub files_run : {D : Type 0} → Hash D → List ℕ → Image → List TimedEvent → Run
@@ -43,8 +44,12 @@ stands-first hash debugger run key image script key_is image_is script_is stands
 
 -- nothing was taken and put: there was no memory for a debugger
 pub none-served : {R W : Type 0} (r : source.Ghosts R) (w : sink.Ghosts W) (run : Run)
-    (source : R) (sink : W)
-    → Serves r (talk_promise w run_reply (first_of run) sink) source source sink (Own Memory)
-none-served r w run source sink =
-    none_served r (talk_promise w run_reply (first_of run) sink) source sink (halt.Own Memory)
-    ([], refl, (0, omega arith, λ before holds. rw (append-nil before) holds))
+    (left : Option ℕ) (source : R) (sink : W)
+    → Serves r (debug_promise w run left sink) source source sink (Own Memory)
+none-served r w run left source sink =
+    none_served r (debug_promise w run left sink) source sink (halt.Own Memory) (
+      [],
+      refl,
+      may-come 0 left left (none-came left),
+      (0, omega arith, λ before holds. rw (append-nil before) holds),
+    )

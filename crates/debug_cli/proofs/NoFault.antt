@@ -1,5 +1,5 @@
 -- Where no part of the outside failed, no fault is answered.
-use Rattle.std.proofs.Common.{◌≡◌, ◌⊎◌, Option, Some, None, refl, inl, inr, ⊎_elim}
+use Rattle.std.proofs.Common.{◌≡◌, ◌⊎◌, ℕ, Option, Some, None, refl, inl, inr, ⊎_elim}
 use Rattle.outside_edge.specs.Count.{Rose}
 use Rattle.outside_edge.specs.declared.shelf.Shelf as shelves
 use Rattle.outside_edge.specs.declared.sink.Sink as sink
@@ -25,18 +25,19 @@ refused-fault files missed failed row status (inr (inr (inr (bad, is, reaches)))
     no-fault (λ read. cc (is, read)) (λ write. cc (is, write)) fault
 
 pub no-fault-of_run : {S R W : Type 0} (s : shelves.Ghosts S) (r : source.Ghosts R)
-    (w : sink.Ghosts W) (shelf shelf_after : S) (old new : Ports R W)
+    (w : sink.Ghosts W) (shelf shelf_after : S) (left : Option ℕ) (old new : Ports R W)
     (command : Option (RowOf Session)) (status : Status)
-    → IsSessionAnswer s r w shelf shelf_after old new command status
+    → IsSessionAnswer s r w shelf shelf_after left old new command status
     → ¬ Rose (s.faults shelf) (s.faults shelf_after)
     → ¬ Rose (r.faults old.source) (r.faults new.source)
     → ¬ Rose (w.faults old.sink) (w.faults new.sink)
     → IsFault status → ⊥
-no-fault-of_run s r w shelf shelf_after old new None status answer no_read no_source no_sink fault =
-    words-fault status (answer.words.1 refl) fault
-no-fault-of_run s r w shelf shelf_after old new (Some row) status answer no_read no_source no_sink
+no-fault-of_run s r w shelf shelf_after left old new None status answer no_read no_source no_sink
     fault =
+    words-fault status (answer.words.1 refl) fault
+no-fault-of_run s r w shelf shelf_after left old new (Some row) status answer no_read no_source
+    no_sink fault =
     ⊎_elim
     (λ refused. refused-fault (s.files shelf) _ _ row status refused.0.cause no_read fault)
-    (λ came. served-fault r w old new status came.0 came.2 no_source no_sink fault)
+    (λ came. served-fault r w left old new status came.0 came.2 no_source no_sink fault)
     answer.answers

@@ -1,5 +1,5 @@
 -- What is answered once a source was served.
-use Rattle.std.proofs.Common.{◌≡◌, ◌<◌, ◌⊎◌, ℕ, List, length, Some, refl, inl, inr, arith}
+use Rattle.std.proofs.Common.{◌≡◌, ◌<◌, ◌⊎◌, ℕ, List, length, Option, Some, refl, inl, inr, arith}
 use Rattle.outside_edge.specs.Count.{Rose}
 use Rattle.outside_edge.specs.declared.sink.Sink as sink
 use Rattle.outside_edge.specs.declared.source.Source as source
@@ -82,8 +82,8 @@ module _ {Own : Type 0} (own_status : Own → Status) (ends : (own : Own) → Is
           → ¬ Rose (w.faults old.sink) (w.faults new.sink)
           → IsEnd status
       ends-whole status bytes so is few no_source no_sink =
-          rw so.answer (elim (whole_or_stopped r promise old.source new.source new.sink bytes so.ended
-          so.serves is few no_source) [
+          rw so.answer (elim (whole_or_stopped r promise old.source new.source new.sink bytes
+          so.ended so.serves is few no_source) [
             | inl done ↦ rw done (inl refl)
             | inr (why, is, (before, last, stopped)) ↦
                 rw is (stopped-end before last why stopped no_sink)
@@ -115,23 +115,23 @@ talk-end : (end : TalkEnd) → IsEnd (talk_status end)
 talk-end talk.Closed = inl refl
 talk-end talk.Memory = inr refl
 
-module _ {R W : Type 0} (r : source.Ghosts R) (w : sink.Ghosts W) (old new : Ports R W)
-    (status : Status) where
-  pub served-words : (session : Session) → HasServed r w session old new status
+module _ {R W : Type 0} (r : source.Ghosts R) (w : sink.Ghosts W) (left : Option ℕ)
+    (old new : Ports R W) (status : Status) where
+  pub served-words : (session : Session) → HasServed r w left session old new status
       → status ≡ Words → ⊥
   served-words (Debugs run) has =
-      ends-words talk_status talk-end r w (debug_promise w run old.sink) old new
-      (λ before last so. so.2.1) status has
+      ends-words talk_status talk-end r w (debug_promise w run left old.sink) old new
+      (λ before last so. so.3.1) status has
   served-words (Lives start) (inr none) = λ is. cc (none.0, is)
   served-words (Lives start) (inl has) =
       ends-words (λ error. Memory) (λ error. inr refl) r w (life_promise w start old.sink) old new
       (λ before last so. so.1) status has
 
-  pub served-limit : (session : Session) → HasServed r w session old new status
+  pub served-limit : (session : Session) → HasServed r w left session old new status
       → KeepsLimit r old.source new.source (status ≡ Spent)
   served-limit (Debugs run) has =
-      ends-limit talk_status talk-end r w (debug_promise w run old.sink) old new
-      (λ before last so. so.2.1) status has
+      ends-limit talk_status talk-end r w (debug_promise w run left old.sink) old new
+      (λ before last so. so.3.1) status has
   served-limit (Lives start) (inr none) =
       record {
         few = rw none.1 (omega arith);
@@ -141,26 +141,27 @@ module _ {R W : Type 0} (r : source.Ghosts R) (w : sink.Ghosts W) (old new : Por
       ends-limit (λ error. Memory) (λ error. inr refl) r w (life_promise w start old.sink) old new
       (λ before last so. so.1) status has
 
-  pub served-whole : (session : Session) (bytes : List ℕ) → HasServed r w session old new status
+  pub served-whole : (session : Session) (bytes : List ℕ)
+      → HasServed r w left session old new status
       → r.left old.source ≡ Some bytes → length bytes < most_input
       → ¬ Rose (r.faults old.source) (r.faults new.source)
       → ¬ Rose (w.faults old.sink) (w.faults new.sink)
       → IsEnd status
   served-whole (Debugs run) bytes has =
-      ends-whole talk_status talk-end r w (debug_promise w run old.sink) old new
-      (λ before last so. so.2.1) status bytes has
+      ends-whole talk_status talk-end r w (debug_promise w run left old.sink) old new
+      (λ before last so. so.3.1) status bytes has
   served-whole (Lives start) bytes (inr none) = λ is few no_source no_sink. inr none.0
   served-whole (Lives start) bytes (inl has) =
       ends-whole (λ error. Memory) (λ error. inr refl) r w (life_promise w start old.sink) old new
       (λ before last so. so.1) status bytes has
 
-  pub served-fault : (session : Session) → HasServed r w session old new status
+  pub served-fault : (session : Session) → HasServed r w left session old new status
       → ¬ Rose (r.faults old.source) (r.faults new.source)
       → ¬ Rose (w.faults old.sink) (w.faults new.sink)
       → IsFault status → ⊥
   served-fault (Debugs run) has =
-      ends-fault talk_status talk-end r w (debug_promise w run old.sink) old new
-      (λ before last so. so.2.1) status has
+      ends-fault talk_status talk-end r w (debug_promise w run left old.sink) old new
+      (λ before last so. so.3.1) status has
   served-fault (Lives start) (inr none) =
       λ no_source no_sink. no-fault (λ is. cc (none.0, is)) (λ is. cc (none.0, is))
   served-fault (Lives start) (inl has) =

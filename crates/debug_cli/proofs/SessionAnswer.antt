@@ -19,11 +19,12 @@ abbrev pub live_end : List ℕ × (ℕ → Option ℕ) → RowOf Session
 live_end values = Ends (Ok (Lives (start_with values.0 values.1)))
 
 module _ {S R W : Type 0} (s : shelves.Ghosts S) (r : source.Ghosts R) (w : sink.Ghosts W)
-    (shelf shelf_after : S) where
+    (shelf shelf_after : S) (left : Option ℕ) where
   pub refused-answer : {V : Type 0} (ports : Ports R W) (row : RowOf Session)
       (rest : V → RowOf Session) (refusal : Refusal)
       → Reads s.files s.faults s.misses shelf shelf_after row rest (Err refusal)
-      → IsSessionAnswer s r w shelf shelf_after ports ports (Some row) (status_of_refusal refusal)
+      → IsSessionAnswer s r w shelf shelf_after left ports ports (Some row)
+      (status_of_refusal refusal)
   refused-answer ports row rest refusal reads =
       let no_words = λ (is : status_of_refusal refusal ≡ Words).
       refused-words (s.files shelf) _ _ row (rw is at reads.refusal) in
@@ -46,20 +47,20 @@ module _ {S R W : Type 0} (s : shelves.Ghosts S) (r : source.Ghosts R) (w : sink
       (status : Status)
       → Reaches (s.files shelf) row (Ok session)
       → KeepsFiles s.files s.faults s.misses shelf shelf_after
-      → HasServed r w session old new status
+      → HasServed r w left session old new status
       → r.faults old.source ≤ r.faults new.source
       → w.faults old.sink ≤ w.faults new.sink
-      → IsSessionAnswer s r w shelf shelf_after old new (Some row) status
+      → IsSessionAnswer s r w shelf shelf_after left old new (Some row) status
   served-answer old new row session status reaches keeps has source_counts sink_counts =
-      let no_words = served-words r w old new status session has in
+      let no_words = served-words r w left old new status session has in
       record {
         words = (λ is. absurd (no_words is), λ none. absurd (cc none));
         unread = λ is. absurd (no_words is);
         answers = inr (session, reaches, has);
         complete = told-complete (s.files shelf) (r.left old.source) _ row _ _
             (λ bytes is few no_source no_sink.
-            served-whole r w old new status session bytes has is few no_source no_sink);
-        limit = served-limit r w old new status session has;
+            served-whole r w left old new status session bytes has is few no_source no_sink);
+        limit = served-limit r w left old new status session has;
         kept = keeps;
         source_counted = source_counts;
         sink_counted = sink_counts;

@@ -58,23 +58,24 @@ pub record EndsWith {R W Own : Type 0} (r : source.Ghosts R) (promise : Promise 
   pub answer : status ≡ answer_to ended
   pub serves : Serves r promise old.source new.source new.sink ended
 
--- what a debugger of a run promises
-abbrev pub debug_promise : {W : Type 0} → sink.Ghosts W → Run → W → Promise W TalkEnd
-debug_promise w run first = talk_promise w run_reply (first_of run) first
+-- what a debugger of a run promises, where it is told how many interrupts come or not
+abbrev pub debug_promise : {W : Type 0} → sink.Ghosts W → Run → Option ℕ → W → Promise W TalkEnd
+debug_promise w run left first =
+    talk_promise w run_reply (record { session = first_of run; sink = first; left = left })
 
--- what was put is the conversation of the bytes that the source gave, or a prefix of it; or there
--- was no memory for a device, and nothing was taken or put
-abbrev pub HasServed : {R W : Type 0} → source.Ghosts R → sink.Ghosts W → Session
+-- what was put is the conversation of the bytes that the source gave, with no more interrupts than
+-- come, or a prefix of it; or there was no memory for a device, and nothing was taken or put
+abbrev pub HasServed : {R W : Type 0} → source.Ghosts R → sink.Ghosts W → Option ℕ → Session
     → Ports R W → Ports R W → Status → Type 0
-HasServed r w (Debugs run) old new status =
-    EndsWith r (debug_promise w run old.sink) status_of_talk old new status
-HasServed r w (Lives start) old new status =
+HasServed r w left (Debugs run) old new status =
+    EndsWith r (debug_promise w run left old.sink) status_of_talk old new status
+HasServed r w left (Lives start) old new status =
     EndsWith r (life_promise w start old.sink) status_of_life old new status
     ⊎ ((status ≡ Memory) × (new ≡ old))
 
--- an answer to arguments that may spell a command
+-- an answer to arguments that may spell a command, where it is told how many interrupts come or not
 pub record IsSessionAnswer {S R W : Type 0} (s : shelves.Ghosts S) (r : source.Ghosts R)
-    (w : sink.Ghosts W) (shelf shelf_after : S) (old new : Ports R W)
+    (w : sink.Ghosts W) (shelf shelf_after : S) (left : Option ℕ) (old new : Ports R W)
     (command : Option (RowOf Session)) (status : Status) : Type 0 where
   pub words : (status ≡ Words) ↔ (command ≡ None)
   pub unread : status ≡ Words → (shelf_after ≡ shelf) × (new ≡ old)
@@ -83,7 +84,7 @@ pub record IsSessionAnswer {S R W : Type 0} (s : shelves.Ghosts S) (r : source.G
   pub answers : IfSome command (λ row.
       (IsUnread s shelf shelf_after row status × (new ≡ old))
       ⊎ ((session : Session) × Reaches (s.files shelf) row (Ok session)
-      × HasServed r w session old new status))
+      × HasServed r w left session old new status))
   -- where files and input are told, no file is refused, the input is not too long, and no fault was
   -- counted, all was answered or memory ran out
   pub complete : IfSome command (λ row. IfSome (s.files shelf) (λ contents.

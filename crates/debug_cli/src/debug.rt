@@ -44,7 +44,7 @@ pub fn run_debug<S: Shelf, R: Source, W: Sink + Drop, I: Interrupts + Drop>(
     sink: W,
     interrupts: I,
 ) -> (Status, W)
-    ensures { IsSessionAnswer S.Shelf R.Source W.Sink shelf.old shelf.new
+    ensures { IsSessionAnswer S.Shelf R.Source W.Sink shelf.old shelf.new (I.left interrupts)
         (record { source = source.old; sink = sink })
         (record { source = source.new; sink = result.1 })
         (Some (debug_row files.now.1.0.name.now files.now.1.1.name.now files.now.0.name.now))
@@ -64,7 +64,7 @@ fn serve_run<R: Source, W: Sink + Drop, I: Interrupts + Drop>(
     sink: W,
     interrupts: I,
 ) -> (Status, W)
-    ensures served { HasServed R.Source W.Sink
+    ensures served { HasServed R.Source W.Sink (I.left interrupts)
         (Debugs (run_with values.now.0 (byte_in values.now.1.0) values.now.1.1))
         (record { source = source.old; sink = sink })
         (record { source = source.new; sink = result.1 }) result.0 }

@@ -1,4 +1,4 @@
-ghost use Rattle.std.specs.Prelude.{◌≡◌, ◌≤◌, Some, option_map};
+ghost use Rattle.std.specs.Prelude.{◌≡◌, ◌≤◌, ℕ, None, Option, Some, option_map};
 ghost use Rattle.mem_map.specs.Image.{byte_in};
 ghost use Rattle.input_files.specs.Argument.{texts};
 ghost use Rattle.debug_cli.specs.{Begun.start_with, Session.{HasServed, IsSessionAnswer, Lives, live_row, live_row_of}};
@@ -43,7 +43,7 @@ pub fn run_live<S: Shelf, R: Source, W: Sink + Drop>(
     source: &mut R,
     sink: W,
 ) -> (Status, W)
-    ensures { IsSessionAnswer S.Shelf R.Source W.Sink shelf.old shelf.new
+    ensures { (left : Option ℕ) → IsSessionAnswer S.Shelf R.Source W.Sink shelf.old shelf.new left
         (record { source = source.old; sink = sink })
         (record { source = source.new; sink = result.1 })
         (Some (live_row files.now.1.name.now files.now.0.name.now)) result.0 }
@@ -61,7 +61,7 @@ fn serve_life<R: Source, W: Sink + Drop>(
     source: &mut R,
     sink: W,
 ) -> (Status, W)
-    ensures served { HasServed R.Source W.Sink
+    ensures served { HasServed R.Source W.Sink None
         (Lives (start_with values.now.0 (byte_in values.now.1)))
         (record { source = source.old; sink = sink })
         (record { source = source.new; sink = result.1 }) result.0 }

@@ -21,7 +21,7 @@ pub fn run<S: Shelf, R: Source, W: Sink + Drop, I: Interrupts + Drop>(
     sink: W,
     interrupts: I,
 ) -> (Status, W)
-    ensures { IsSessionAnswer S.Shelf R.Source W.Sink shelf.old shelf.new
+    ensures { IsSessionAnswer S.Shelf R.Source W.Sink shelf.old shelf.new (I.left interrupts)
         (record { source = source.old; sink = sink })
         (record { source = source.new; sink = result.1 })
         (session_row_of (texts arguments.now)) result.0 }

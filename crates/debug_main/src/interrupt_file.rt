@@ -31,6 +31,11 @@ impl<'a> InterruptFile<'a> {
 }
 
 impl Interrupts for InterruptFile<'_> {
+    ghost use Rattle.std.specs.Prelude.{None};
+
+    // Nothing is told of how often the file grows.
+    ghost left = { λ _. None };
+
     fn have_come(&mut self) -> bool {
         let before = self.size;
         self.size = self.size_now();

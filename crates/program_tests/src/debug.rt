@@ -62,6 +62,10 @@ const WAY_BACK_ANSWERS: &[u8] = b"+$OK#9a+$O747820342034310a#b0$T05#b9\
 struct AtLook(u64);
 
 impl Interrupts for AtLook {
+    ghost use Rattle.std.specs.Prelude.{Some, min};
+
+    ghost left = { λ it. Some (min 1 it.0) };
+
     fn have_come(&mut self) -> bool {
         let has_come = self.0 == 1;
         self.0 = self.0.saturating_sub(1);

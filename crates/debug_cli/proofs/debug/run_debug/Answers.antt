@@ -10,7 +10,7 @@ returns-in-Ok g c =
     let session : Session = Debugs (run_with found.0 (byte_in found.1.0) found.1.1) in
     let reads = c.in-Ok.ensures debug_end in
     let served = c.serve_run.ensures in
-    served-answer g.S.Shelf g.R.Source g.W.Sink c.args.shelf.now c.read.new.shelf
+    served-answer g.S.Shelf g.R.Source g.W.Sink c.args.shelf.now c.read.new.shelf _
     (record { source = c.args.source.now; sink = c.args.sink })
     (record { source = c.serve_run.new.source; sink = c.serve_run.result.1 })
     (debug_row c.args.files.now.1.0.name.now c.args.files.now.1.1.name.now
@@ -22,7 +22,7 @@ returns-in-Ok g c =
 pub returns-in-Err : goal.returns-in-Err
 returns-in-Err g c =
     rw c.of_refusal.ensures
-    (refused-answer g.S.Shelf g.R.Source g.W.Sink c.args.shelf.now c.read.new.shelf
+    (refused-answer g.S.Shelf g.R.Source g.W.Sink c.args.shelf.now c.read.new.shelf _
     (record { source = c.args.source.now; sink = c.args.sink })
     (debug_row c.args.files.now.1.0.name.now c.args.files.now.1.1.name.now
     c.args.files.now.0.name.now) _ c.in-Err.refusal

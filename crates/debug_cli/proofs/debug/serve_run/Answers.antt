@@ -9,7 +9,7 @@ returns-in_default-clause-served g c =
     record {
       ended = Own Memory;
       answer = refl;
-      serves = none-served g.R.Source g.W.Sink _ c.args.source.now c.args.sink;
+      serves = none-served g.R.Source g.W.Sink _ _ c.args.source.now c.args.sink;
     }
 
 pub returns-clause-served : goal.returns-clause-served
@@ -17,12 +17,12 @@ returns-clause-served g c =
     let stands =
     stands-first _ c.in-Ok.debugger c.new-run.result c.args.values.now.0 c.args.values.now.1.0
     c.args.values.now.1.1 c.new-run.ensures.key c.new-run.ensures.image c.new-run.ensures.script
-    c.in-Ok.ensures in
+    c.in-Ok.ensures.1 in
     record {
       ended = c.serve-served.result;
       answer = c.served_status.ensures;
       serves =
           rw c.into_sink.ensures
-          (rw c.new-packets.ensures at (c.serve-served.ensures.serves _ stands
+          (rw (c.new-packets.ensures, c.in-Ok.ensures.0) at (c.serve-served.ensures.serves _ stands
           (rw c.new-packets.ensures refl)));
     }

@@ -4,5 +4,5 @@ use Rattle.program_tests.proofs.debug.over_those_that_never_fail_all_is_answered
 
 pub unreachable-requires : goal.unreachable-requires
 unreachable-requires g c =
-    no-fault-of_run _ _ _ _ _ _ _ _ _ c.run-status.ensures (λ rose. search (arith, rose))
+    no-fault-of_run _ _ _ _ _ _ _ _ _ _ c.run-status.ensures (λ rose. search (arith, rose))
     (λ rose. search (arith, rose)) (λ rose. search (arith, rose)) c.in-ReadFault.is

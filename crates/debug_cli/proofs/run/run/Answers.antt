@@ -1,0 +1,11 @@
+use Rattle.std.proofs.Common.{◌≡◌, Some, rules}
+use Rattle.input_files.specs.Argument.{texts}
+use Rattle.debug_cli.specs.Session.{live_row, session_row_of}
+use Rattle.debug_cli.proofs.run.run.Goals as goal
+
+pub returns-in-Some-live_files : goal.returns-in-Some-live_files
+returns-in-Some-live_files g c =
+    let files = c.in-Some-live_files.files in
+    let row : session_row_of (texts c.args.arguments.now)
+    ≡ Some (live_row files.1.name.now files.0.name.now) = search rules in
+    rw row (c.run_live.ensures (g.I.Interrupts.left c.args.interrupts))
