@@ -15,7 +15,7 @@ use Rattle.mac_coverage.specs.Coverage.{Gives32Bytes, IsDeviceKey, IsOfBytes}
 use Rattle.report_verifier.specs.{Policy.PolicyFields, PolicyGrammar.policy_of, Validity.are_valid_for, Judge.{Judge, judge_with}}
 use Rattle.report_verifier.proofs.PolicyBounds.{policy_of-valid}
 use Rattle.input_files.specs.{Row.{FileKind, RowOf, Ends, Reads, go_on, read_file, file_value}, Reading.{Files, Reaches}, FileKind.{image_kind, key_kind, policy_kind, script_kind}}
-use Rattle.device_cli.specs.{Row.{Always, DevicePlay, start_in}, Load.{load_key, load_image}, LawfulPlay.{IsLawful, IsLawfulRow, IsPutLawfully}, Play.{PlayOutcome, play_with, steps_of, steps_row}, Acceptance.EachAcceptHasGrounds, Round.{RoundsHaveGrounds, round_row}, Work.{load_play, work_row}}
+use Rattle.device_cli.specs.{Row.{Always, DevicePlay, start_in}, Load.{load_key, load_image}, FileKind.reports_kind, LawfulPlay.{IsLawful, IsLawfulRow, IsPutLawfully}, Play.{PlayOutcome, play_with, steps_of, steps_row}, Acceptance.EachAcceptHasGrounds, Round.{RoundsHaveGrounds, round_row}, Verify.verify_row, Work.{load_play, work_row}}
 use Rattle.device_cli.proofs.Grounds.{each_accept-has_grounds}
 use Rattle.device_play.proofs.PlayLaws.{keeps_key_hidden, obeys_laws}
 
@@ -107,6 +107,16 @@ round_row_lawful all image script key policy steps =
     read-always IsPutLawfully policy_kind policy _ (λ policy_read policy_bytes policy_is.
     is-lawful (play_with steps key_read image_read script_read)
     (device_key key_bytes key_read key_is) (image_bytes bytes image_read image_is)))))
+
+-- what is put of verdicts is put of no play
+pub verify_row_lawful : (all : Bool) (image policy key reports : List ℕ)
+    → IsLawfulRow (verify_row all image policy key reports)
+verify_row_lawful all image policy key reports =
+    read-always IsPutLawfully key_kind key _ (λ key_read key_bytes key_is.
+    read-always IsPutLawfully image_kind image _ (λ image_read image_bytes image_is.
+    read-always IsPutLawfully policy_kind policy _ (λ policy_read policy_bytes policy_is.
+    read-always IsPutLawfully reports_kind reports _ (λ reports_read reports_bytes reports_is.
+    tt))))
 
 abbrev AcceptsHaveGrounds : Judge × DevicePlay → Type 0
 AcceptsHaveGrounds judged = EachAcceptHasGrounds judged.0 (start_in judged.1) judged.1.play

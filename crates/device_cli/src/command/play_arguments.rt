@@ -1,7 +1,7 @@
 ghost use Rattle.std.specs.Prelude.{◌≤◌};
 ghost use Rattle.device_play.specs.Limit.{most_steps};
 
-use crate::command::play_files::{PlayFiles, play_files};
+use crate::command::play_files::PlayFiles;
 use text_scan::decimal;
 
 /// The most steps that one run plays.
@@ -23,15 +23,15 @@ impl<'a> PlayArguments<'a> {
     /// Those that are spelled. STEPS is a decimal in 1..10,000,000.
     pub fn from_arguments(arguments: &'a [String]) -> Option<PlayArguments<'a>>
         ensures { (outcome : PlayOutcome)
-            → option_map (λ play. steps_row outcome play.files.0.1.name.now play.files.1.name.now
-            play.files.0.0.name.now play.steps) result
+            → option_map (λ play. steps_row outcome play.files.image.name.now
+            play.files.script.name.now play.files.key.name.now play.steps) result
             ≡ steps_row_of outcome (texts arguments.now) }
     {
         let [image, script, key, steps] = arguments else {
             return None;
         };
         let steps = decimal(steps.as_bytes(), 1, MOST_STEPS).ok()?;
-        let files = play_files(image.as_str(), script.as_str(), key.as_str());
+        let files = PlayFiles::new(image.as_str(), script.as_str(), key.as_str());
         Some(PlayArguments { files, steps })
     }
 }

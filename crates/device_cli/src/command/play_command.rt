@@ -34,15 +34,15 @@ impl<'a, T: Telling> Task<'a> for PlayCommand<'a, T> {
     ghost row_of = { steps_row_of T.outcome };
 
     ghost command_row = { λ command. steps_row T.outcome
-        command.arguments.files.0.1.name.now command.arguments.files.1.name.now
-        command.arguments.files.0.0.name.now command.arguments.steps };
+        command.arguments.files.image.name.now command.arguments.files.script.name.now
+        command.arguments.files.key.name.now command.arguments.steps };
 
-    ghost outcome = { λ command values. T.outcome (play_with command.arguments.steps values.0.0
-        (byte_in values.0.1) values.1) };
+    ghost outcome = { λ command values. T.outcome (play_with command.arguments.steps values.key
+        (byte_in values.image) values.script) };
 
     ghost is_prepared = { λ command values device. HeldStandsFor
         ⟦<Sha256Digest as Digest32>⟧.hash ⟦<AuxFlag as TraceFlag>⟧.flag device
-        (start_of values.0.0 (byte_in values.0.1)) [] };
+        (start_of values.key (byte_in values.image)) [] };
 
     ghost once_put = { T.once_put };
 
@@ -63,8 +63,7 @@ impl<'a, T: Telling> Task<'a> for PlayCommand<'a, T> {
         alloc: Global,
         values: &PlayValues,
     ) -> Result<PoweredDevice, AllocError> {
-        let ((key, image), _) = values;
-        P::power_on(alloc, key, image)
+        P::power_on(alloc, &values.key, &values.image)
     }
 
     fn put<W: Sink>(
@@ -74,7 +73,7 @@ impl<'a, T: Telling> Task<'a> for PlayCommand<'a, T> {
         device: PoweredDevice,
         sink: &mut W,
     ) -> Result<Ending, PutFault> {
-        let script = &values.1;
+        let script = &values.script;
         tell::<T, Sha256Digest, AuxFlag, W>(device, script, self.arguments.steps, sink)?;
         Ok(Ending::Done)
     }

@@ -3,7 +3,7 @@ ghost use Rattle.device_play.specs.Limit.{most_steps};
 
 use crate::command::all_word::split_all;
 use crate::command::play_arguments::MOST_STEPS;
-use crate::command::play_files::{PlayFiles, PlayValues, play_files};
+use crate::command::play_files::{PlayFiles, PlayValues};
 use crate::command_end::CommandEnd;
 use crate::ending::Ending;
 use crate::power::{Power, PoweredDevice};
@@ -26,13 +26,18 @@ use text_scan::decimal;
 pub struct Round<'a> {
     /// All requests of the policy have to be answered.
     pub all: bool,
-    pub files: (PlayFiles<'a>, File<'a, Policy>),
+    pub play: PlayFiles<'a>,
+    pub policy: File<'a, Policy>,
     pub steps: u64,
     ghost few: { steps ≤ most_steps },
 }
 
 /// The values of a play's files, and the policy.
-pub type RoundValues = (PlayValues, report_verifier::Policy);
+#[derive(Drop)]
+pub struct RoundValues {
+    pub play: PlayValues,
+    pub policy: report_verifier::Policy,
+}
 
 impl<'a> Round<'a> {
     ghost use Rattle.std.specs.Prelude.{◌≡◌, option_map};
@@ -41,8 +46,8 @@ impl<'a> Round<'a> {
 
     // The command that the arguments spell, with the word `--all` or without it.
     fn with_all(all: bool, arguments: &'a [String]) -> Option<Round<'a>>
-        ensures { option_map (λ round. round_row round.all round.files.0.0.1.name.now
-            round.files.0.1.name.now round.files.0.0.0.name.now round.files.1.name.now
+        ensures { option_map (λ round. round_row round.all round.play.image.name.now
+            round.play.script.name.now round.play.key.name.now round.policy.name.now
             round.steps) result
             ≡ round_row_with all (texts arguments.now) }
     {
@@ -50,11 +55,10 @@ impl<'a> Round<'a> {
             return None;
         };
         let steps = decimal(steps.as_bytes(), 1, MOST_STEPS).ok()?;
-        let play = play_files(image.as_str(), script.as_str(), key.as_str());
-        let policy = File::new(policy.as_str(), Policy);
         Some(Round {
             all,
-            files: (play, policy),
+            play: PlayFiles::new(image.as_str(), script.as_str(), key.as_str()),
+            policy: File::new(policy.as_str(), Policy),
             steps,
         })
     }
@@ -72,15 +76,15 @@ impl<'a> Task<'a> for Round<'a> {
 
     ghost row_of = { round_row_of };
 
-    ghost command_row = { λ round. round_row round.all round.files.0.0.1.name.now
-        round.files.0.1.name.now round.files.0.0.0.name.now round.files.1.name.now round.steps };
+    ghost command_row = { λ round. round_row round.all round.play.image.name.now
+        round.play.script.name.now round.play.key.name.now round.policy.name.now round.steps };
 
-    ghost outcome = { λ round values. round_outcome round.all round.steps values.0.0.0
-        (byte_in values.0.0.1) values.0.1 values.1 };
+    ghost outcome = { λ round values. round_outcome round.all round.steps values.play.key
+        (byte_in values.play.image) values.play.script values.policy };
 
     ghost is_prepared = { λ round values device. HeldStandsFor
         ⟦<Sha256Digest as Digest32>⟧.hash ⟦<AuxFlag as TraceFlag>⟧.flag device
-        (start_of values.0.0.0 (byte_in values.0.0.1)) [] };
+        (start_of values.play.key (byte_in values.play.image)) [] };
 
     ghost once_put = { λ outcome. Unit {0} };
 
@@ -91,7 +95,9 @@ impl<'a> Task<'a> for Round<'a> {
     }
 
     fn read<S: Shelf>(&self, alloc: Global, shelf: &mut S) -> Result<RoundValues, Refusal> {
-        self.files.read::<CommandEnd, S>(alloc, shelf)
+        let values = (self.play, self.policy).read::<CommandEnd, S>(alloc, shelf)?;
+        let (play, policy) = values;
+        Ok(RoundValues { play, policy })
     }
 
     fn prepare<P: Power>(
@@ -99,8 +105,7 @@ impl<'a> Task<'a> for Round<'a> {
         alloc: Global,
         values: &RoundValues,
     ) -> Result<PoweredDevice, AllocError> {
-        let (((key, image), _), _) = values;
-        P::power_on(alloc, key, image)
+        P::power_on(alloc, &values.play.key, &values.play.image)
     }
 
     fn put<W: Sink>(
@@ -110,13 +115,17 @@ impl<'a> Task<'a> for Round<'a> {
         device: PoweredDevice,
         sink: &mut W,
     ) -> Result<Ending, PutFault> {
-        let (((key, image), script), policy) = values;
-        let verifier = Verifier { key, image, policy };
+        let RoundValues { play, policy } = values;
+        let verifier = Verifier {
+            key: &play.key,
+            image: &play.image,
+            policy,
+        };
         let judging = Judging {
             alloc,
             verifier: &verifier,
         };
-        let (_, tally) = play_before(device, script, self.steps, &judging, sink)?;
+        let (_, tally) = play_before(device, &play.script, self.steps, &judging, sink)?;
         Ok(end_verdicts(self.all, policy, &tally, sink)?)
     }
 }

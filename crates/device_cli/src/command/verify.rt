@@ -20,15 +20,20 @@ use std::alloc::{AllocError, Global};
 pub struct Verify<'a> {
     /// All requests of the policy have to be answered.
     pub all: bool,
-    pub device: (File<'a, Key>, File<'a, Image>),
-    pub evidence: (File<'a, Policy>, File<'a, Reports>),
+    pub key: File<'a, Key>,
+    pub image: File<'a, Image>,
+    pub policy: File<'a, Policy>,
+    pub reports: File<'a, Reports>,
 }
 
 /// What verdicts are made of: key and image of the device, policy and reports.
-pub type VerifyValues = (
-    ([u8; 64], mem_map::Image),
-    (report_verifier::Policy, Vec<Report>),
-);
+#[derive(Drop)]
+pub struct VerifyValues {
+    pub key: [u8; 64],
+    pub image: mem_map::Image,
+    pub policy: report_verifier::Policy,
+    pub reports: Vec<Report>,
+}
 
 impl<'a> Task<'a> for Verify<'a> {
     ghost use Rattle.mem_map.specs.Image.{byte_in};
@@ -41,11 +46,11 @@ impl<'a> Task<'a> for Verify<'a> {
 
     ghost row_of = { verify_row_of };
 
-    ghost command_row = { λ verify. verify_row verify.all verify.device.1.name.now
-        verify.evidence.0.name.now verify.device.0.name.now verify.evidence.1.name.now };
+    ghost command_row = { λ verify. verify_row verify.all verify.image.name.now
+        verify.policy.name.now verify.key.name.now verify.reports.name.now };
 
     ghost outcome = { λ verify values. verify_outcome verify.all
-        (judge_with values.0.0 (byte_in values.0.1) values.1.0) values.1.1.items };
+        (judge_with values.key (byte_in values.image) values.policy) values.reports.items };
 
     ghost is_prepared = { λ task values prepared. Unit {0} };
 
@@ -56,19 +61,25 @@ impl<'a> Task<'a> for Verify<'a> {
         let [image, policy, key, reports] = files else {
             return None;
         };
-        let key = File::new(key.as_str(), Key);
-        let image = File::new(image.as_str(), Image);
-        let policy = File::new(policy.as_str(), Policy);
-        let reports = File::new(reports.as_str(), Reports);
         Some(Verify {
             all,
-            device: (key, image),
-            evidence: (policy, reports),
+            key: File::new(key.as_str(), Key),
+            image: File::new(image.as_str(), Image),
+            policy: File::new(policy.as_str(), Policy),
+            reports: File::new(reports.as_str(), Reports),
         })
     }
 
     fn read<S: Shelf>(&self, alloc: Global, shelf: &mut S) -> Result<VerifyValues, Refusal> {
-        (self.device, self.evidence).read::<CommandEnd, S>(alloc, shelf)
+        let files = ((self.key, self.image), (self.policy, self.reports));
+        let values = files.read::<CommandEnd, S>(alloc, shelf)?;
+        let ((key, image), (policy, reports)) = values;
+        Ok(VerifyValues {
+            key,
+            image,
+            policy,
+            reports,
+        })
     }
 
     fn prepare<P: Power>(&self, _alloc: Global, _values: &VerifyValues) -> Result<(), AllocError> {
@@ -82,9 +93,12 @@ impl<'a> Task<'a> for Verify<'a> {
         _prepared: (),
         sink: &mut W,
     ) -> Result<Ending, PutFault> {
-        let ((key, image), (policy, reports)) = values;
-        let verifier = Verifier { key, image, policy };
-        let tally = print_verdicts::<Sha256Digest, W>(&verifier, reports, sink)?;
-        Ok(end_verdicts(self.all, policy, &tally, sink)?)
+        let verifier = Verifier {
+            key: &values.key,
+            image: &values.image,
+            policy: &values.policy,
+        };
+        let tally = print_verdicts::<Sha256Digest, W>(&verifier, &values.reports, sink)?;
+        Ok(end_verdicts(self.all, &values.policy, &tally, sink)?)
     }
 }

@@ -7,6 +7,6 @@ pub returns-clause-refused : goal.returns-clause-refused
 returns-clause-refused g c =
     let values = c.args.values.now in
     let device_play : DevicePlay =
-    play_with c.args.self.now.arguments.steps values.0.0 (byte_in values.0.1) values.1 in
+    play_with c.args.self.now.arguments.steps values.key (byte_in values.image) values.script in
     without-device g.P.Power.is_refused (g.T.Telling.outcome device_play) device_play
     c.power_on.result (g.met.T.Telling.of_play device_play) c.power_on.ensures.refused

@@ -11,6 +11,6 @@ returns-clause-reads g c =
 pub returns-clause-lawful : goal.returns-clause-lawful
 returns-clause-lawful g c =
     let self = c.args.self.now in
-    steps_row_lawful g.T.Telling.outcome self.arguments.files.0.1.name.now
-    self.arguments.files.1.name.now self.arguments.files.0.0.name.now self.arguments.steps
+    steps_row_lawful g.T.Telling.outcome self.arguments.files.image.name.now
+    self.arguments.files.script.name.now self.arguments.files.key.name.now self.arguments.steps
     g.met.T.Telling.of_play

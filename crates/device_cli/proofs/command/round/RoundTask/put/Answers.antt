@@ -11,15 +11,15 @@ pub end_verdicts-requires : goal.end_verdicts-requires
 end_verdicts-requires g c =
     let values = c.args.values.now in
     let self = c.args.self.now in
-    let judge : Judge = judge_with values.0.0.0 (byte_in values.0.0.1) values.1 in
+    let judge : Judge = judge_with values.play.key (byte_in values.play.image) values.policy in
     let device_play : DevicePlay =
-    play_with self.steps values.0.0.0 (byte_in values.0.0.1) values.0.1 in
+    play_with self.steps values.play.key (byte_in values.play.image) values.play.script in
     let watched = c.in_ok-tally.ensures.watched (start_in device_play) c.requires in
     omega (
       arith,
       (verdicts-few judge (start_in device_play) device_play.play c.in_ok-tally.tally
           watched.counted).1,
-      length-play_of (events_of values.0.1) self.steps,
+      length-play_of (events_of values.play.script) self.steps,
       self.few,
     )
 
@@ -27,9 +27,9 @@ pub returns-in_err-tally-clause-puts : goal.returns-in_err-tally-clause-puts
 returns-in_err-tally-clause-puts g c =
     let values = c.args.values.now in
     let self = c.args.self.now in
-    let judge : Judge = judge_with values.0.0.0 (byte_in values.0.0.1) values.1 in
+    let judge : Judge = judge_with values.play.key (byte_in values.play.image) values.policy in
     let device_play : DevicePlay =
-    play_with self.steps values.0.0.0 (byte_in values.0.0.1) values.0.1 in
+    play_with self.steps values.play.key (byte_in values.play.image) values.play.script in
     stopped-before g.W.Sink.stands g.W.Sink.faults c.args.sink.now c.play_before.new.sink
     (judged_outcome judge device_play)
     (unanswered_in self.all judge (start_in device_play) device_play.play)
@@ -45,9 +45,9 @@ pub returns-in_err-end_verdicts-clause-puts : goal.returns-in_err-end_verdicts-c
 returns-in_err-end_verdicts-clause-puts g c =
     let values = c.args.values.now in
     let self = c.args.self.now in
-    let judge : Judge = judge_with values.0.0.0 (byte_in values.0.0.1) values.1 in
+    let judge : Judge = judge_with values.play.key (byte_in values.play.image) values.policy in
     let device_play : DevicePlay =
-    play_with self.steps values.0.0.0 (byte_in values.0.0.1) values.0.1 in
+    play_with self.steps values.play.key (byte_in values.play.image) values.play.script in
     let start = start_in device_play in
     let watched = c.in_ok-tally.ensures.watched start c.requires in
     end-failed g.W.Sink.stands g.W.Sink.faults c.args.sink.now c.play_before.new.sink
@@ -66,9 +66,9 @@ pub returns-clause-puts : goal.returns-clause-puts
 returns-clause-puts g c =
     let values = c.args.values.now in
     let self = c.args.self.now in
-    let judge : Judge = judge_with values.0.0.0 (byte_in values.0.0.1) values.1 in
+    let judge : Judge = judge_with values.play.key (byte_in values.play.image) values.policy in
     let device_play : DevicePlay =
-    play_with self.steps values.0.0.0 (byte_in values.0.0.1) values.0.1 in
+    play_with self.steps values.play.key (byte_in values.play.image) values.play.script in
     let start = start_in device_play in
     let decisions = verdicts judge (reports_in start device_play.play) in
     let watched = c.in_ok-tally.ensures.watched start c.requires in

@@ -19,7 +19,7 @@ pub returns-in_err-tally-clause-puts : goal.returns-in_err-tally-clause-puts
 returns-in_err-tally-clause-puts g c =
     let values = c.args.values.now in
     let all = c.args.self.now.all in
-    let judge : Judge = judge_with values.0.0 (byte_in values.0.1) values.1.0 in
+    let judge : Judge = judge_with values.key (byte_in values.image) values.policy in
     let reports = c.deref.result.now in
     let decisions = verdicts judge reports in
     rw (← c.deref.ensures.value)
@@ -35,7 +35,7 @@ pub returns-in_err-end_verdicts-clause-puts : goal.returns-in_err-end_verdicts-c
 returns-in_err-end_verdicts-clause-puts g c =
     let values = c.args.values.now in
     let all = c.args.self.now.all in
-    let judge : Judge = judge_with values.0.0 (byte_in values.0.1) values.1.0 in
+    let judge : Judge = judge_with values.key (byte_in values.image) values.policy in
     let reports = c.deref.result.now in
     let decisions = verdicts judge reports in
     rw (← c.deref.ensures.value)
@@ -51,7 +51,7 @@ pub returns-clause-puts : goal.returns-clause-puts
 returns-clause-puts g c =
     let values = c.args.values.now in
     let all = c.args.self.now.all in
-    let judge : Judge = judge_with values.0.0 (byte_in values.0.1) values.1.0 in
+    let judge : Judge = judge_with values.key (byte_in values.image) values.policy in
     let reports = c.deref.result.now in
     let decisions = verdicts judge reports in
     rw (← c.deref.ensures.value)
