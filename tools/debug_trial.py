@@ -92,7 +92,11 @@ def acknowledged_lines(words, patience=20.0):
     with subprocess.Popen(words, stdin=theirs, stdout=theirs) as ran, ours:
         theirs.close()
         try:
-            ours.sendall(packet(b"qRcmd," + b"until 20000".hex().encode()) + packet(b"c"))
+            ours.sendall(packet(b"qRcmd," + b"until 20000".hex().encode()))
+            while b"$OK#" not in put:
+                put += ours.recv(65536)
+            ours.sendall(b"+" + packet(b"c"))
+            put = bytes(5)
             while b"$T05#" not in put:
                 put = put[-5:] + ours.recv(65536)
                 for _ in range(put.count(b"$O", 4)):
