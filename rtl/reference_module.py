@@ -21,16 +21,16 @@ from values import Data, Opaque, branch, called, data, known, merged  # noqa: E4
 
 KINDS = ("Boot", "Cpu", "Idle", "Irq", "Rom")  # as the wire `kind` numbers them
 BOUNDS = ("er_min", "er_max", "or_min", "or_max")
-FLAGS = {"exec": ("bus_signals", "ExecFlag", "exec"),
+FLAGS = {"exec": ("device_types", "ExecFlag", "exec"),
          "aux": ("part_definitions", "TrustedFlag", "aux")}
 LAST = merged(negation(wire("last_some")), data("None"), data("Some", known(wire("last_pc", 16))))
 # Functions of the lines before, each with what stands for it and what it is of no lines.
-LEFT = ((("bus_signals", "ExecFlag", "last_pc"), LAST, data("None")),
+LEFT = ((("device_types", "ExecFlag", "last_pc"), LAST, data("None")),
         *((place, wire(f"{flag}_q"), FALSE) for flag, place in FLAGS.items()))
 # The files of single rules and conditions, each with what is given to them beside the `pc` before.
 SINGLE = {("part_definitions", "MonitorRule"): "signals_in",
           ("part_definitions", "FirstRule"): "signals_in",
-          ("bus_signals", "ExecFlag"): "seen_in",
+          ("device_types", "ExecFlag"): "seen_in",
           ("part_definitions", "TrustedFlag"): "seen_in"}
 CONDITION = re.compile(r"(?:breaks|clears)_([a-z]\d+)|(starts)_run")
 

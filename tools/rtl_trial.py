@@ -108,7 +108,7 @@ def reference_tool(trial):
     for word in [*range(0, 0x10000, 97), *range(0x1000, 0x1400)]:
         if (called(illegal, constant(word)) is TRUE) != is_illegal(word):
             trial.fault(f"is_illegal {word:04x}")
-    valid = evaluation.named("bus_signals", "Bounds", "are_valid")
+    valid = evaluation.named("device_types", "Bounds", "are_valid")
     for line in foreign_trace(2, False, 400):
         bounds = {name: known(constant(place)) for name, place in zip(BOUNDS, line.bounds)}
         if (called(valid, bounds) is TRUE) != is_valid(line.bounds, 2):

@@ -1,6 +1,6 @@
 -- What the files of a command give: a device at power-on, or a run of it for a debugger.
 use Rattle.std.specs.Prelude.{ℕ, List, Option}
-use Rattle.bus_signals.specs.Address.{Bytes}
+use Rattle.device_types.specs.Address.{Bytes}
 use Rattle.part_definitions.specs.TrustedFlag.{aux}
 use Rattle.mem_map.specs.Image.{image_byte}
 use Rattle.play_script.specs.Script.{TimedEvent, events_of}

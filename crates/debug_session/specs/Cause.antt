@@ -1,7 +1,7 @@
 -- Why a debugger stops at a place: for what is there, for what lies between it and where it came
 -- from, and for what lies ahead.
 use Rattle.std.specs.Prelude.{ℕ, ◌==◌, ◌&&◌, ◌||◌, ◌-◌, ◌++◌, Bool, true, false, zero, suc, List, [], ◌∷◌, Option, Some, None, length, nat_le, nat_lt, not, if◌then◌else◌}
-use Rattle.bus_signals.specs.{declared.rule.Rule.{Rule, TheVariants.X0}, Kind.{is_boot, is_cpu, is_rom}, Map.ROM_ENTRY}
+use Rattle.device_types.specs.{declared.rule.Rule.{Rule, TheVariants.X0}, Kind.{is_boot, is_cpu, is_rom}, Map.ROM_ENTRY}
 use Rattle.part_definitions.specs.CpuRegister.{is_asleep, pc_of}
 use Rattle.debug_session.specs.{Stops.{Stops, has_breakpoint}, Watched.{first_hit, last_hit}, declared.{stop.Stop.{Stop, TheVariants.{Plain, Stepped, Watched, Refused}}, watch.{Hit.Hit, Watch.Watch}, command.Way.{Way, TheVariants.{Ahead, Back}}}, Sight.{Sight, View}}
 

@@ -1,6 +1,6 @@
 -- What a debugger reads of a place, which is a number of steps.
 use Rattle.std.specs.Prelude.{ℕ, Bool, List, Option}
-use Rattle.bus_signals.specs.{declared.{kind.Kind.Kind, rule.Rule.Rule}}
+use Rattle.device_types.specs.{declared.{kind.Kind.Kind, rule.Rule.Rule}}
 use Rattle.part_definitions.specs.CpuRegister.{Registers}
 use Rattle.debug_session.specs.{declared.watch.{Hit.Hit, Watch.Watch}}
 

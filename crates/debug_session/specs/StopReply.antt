@@ -1,6 +1,6 @@
 -- The stop replies of GDB's remote serial protocol: `T` with a signal's number, and why.
 use Rattle.std.specs.Prelude.{ℕ, ◌++◌, List, codes, drop, nat_lt, if◌then◌else◌}
-use Rattle.bus_signals.specs.{declared.rule.Rule.{Rule, TheVariants.{I1, K4, K5, K6}}}
+use Rattle.device_types.specs.{declared.rule.Rule.{Rule, TheVariants.{I1, K4, K5, K6}}}
 use Rattle.printed_lines.specs.Line.{word_digits}
 use Rattle.debug_session.specs.{declared.{stop.Stop.{Stop, TheVariants.{Plain, Stepped, Watched, Refused, Interrupted, End, Begin}}, watch.WatchKind.WatchKind}}
 use Rattle.debug_session.specs.declared.watch.WatchKind.TheVariants as watch

@@ -1,9 +1,9 @@
 ghost use Rattle.std.specs.Prelude.{◌≡◌};
-ghost use Rattle.bus_signals.specs.Access.{bytes_of, places_of};
+ghost use Rattle.device_types.specs.Access.{bytes_of, places_of};
 ghost use Rattle.debug_session.specs.Watched.{data_access, flag_access, made_access, seen_accesses, is_of_kind, is_watched, first_watched, hit_by, hits_by, hits_of, first_hit, last_hit};
 
 use crate::watch::{Hit, Watch, WatchKind};
-use bus_signals::{AUX_WORD, Access, BusRecord, EXEC_WORD};
+use device_types::{AUX_WORD, Access, BusRecord, EXEC_WORD};
 use word_arith::Size;
 
 /// What a watch sees of a step, in this order.

@@ -3,7 +3,7 @@ ghost use Rattle.line_buffer.specs.declared.line_buffer.TheConstants.{ROOM};
 ghost use Rattle.debug_session.specs.StopReply.{hexadecimal, zeros_of, refusal_reply, stop_reply, watch_word};
 
 use crate::watch::{Hit, WatchKind};
-use bus_signals::Rule;
+use device_types::Rule;
 use line_buffer::LineBuffer;
 
 /// Why a device stands where it stands.

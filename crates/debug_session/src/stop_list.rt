@@ -6,7 +6,7 @@ use crate::seen_accesses::hit_by;
 use crate::stop_change::StopChange;
 use crate::watch::{Watch, same_watch};
 use arrayvec::ArrayVec;
-use bus_signals::Access;
+use device_types::Access;
 use std::marker::Model;
 
 const MOST_BREAKPOINTS: usize = 64;

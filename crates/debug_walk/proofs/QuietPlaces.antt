@@ -2,7 +2,7 @@
 use Rattle.std.proofs.Common.{◌≡◌, ◌<◌, ◌∙◌, ⊎_elim, ℕ, suc, Bool, true, false, not, List, [], ◌∷◌, Option, None, Some, refl, ap, sym, subst, arith}
 use Rattle.std.specs.Prelude.{◌==◌, ◌&&◌, ◌||◌, is_some, if◌then◌else◌}
 use Rattle.std.proofs.lemmas.Bool.{and_parts, false≢true}
-use Rattle.bus_signals.specs.{Address.even, Map.ROM_ENTRY, declared.{access.Access.{Access, TheVariants.{Fetch, Read, Write}}, bus_record.BusRecord.BusRecord, event.Event.Event, kind.Kind.TheVariants.{Cpu, Idle, Irq, Rom}}}
+use Rattle.device_types.specs.{Address.even, Map.ROM_ENTRY, declared.{access.Access.{Access, TheVariants.{Fetch, Read, Write}}, bus_record.BusRecord.BusRecord, event.Event.Event, kind.Kind.TheVariants.{Cpu, Idle, Irq, Rom}}}
 use Rattle.part_definitions.specs.{CpuRegister.{Registers, is_asleep, pc_of}, CpuState.{Boundary, Executing, Entering}, MonitorRule.in_rom, Memory.ShownFlags}
 use Rattle.device_trace.specs.{Level.level_after, Logs.{progress_after, vector_of}, Progress.{Progress, Held, Runs, InCall, boundary_kind, kind_of, last_registers, progress_within, stands_at_boundary}, Signals.step_kind, Step.next_record, Trace.logs_after}
 use Rattle.trace_facts.proofs.{ProperPlay.{IsProperProgress, logs_after-proper}, ProperRegisters.IsProper}

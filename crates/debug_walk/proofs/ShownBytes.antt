@@ -4,7 +4,7 @@ use Rattle.std.specs.Prelude.{◌||◌, if◌then◌else◌}
 use Rattle.std.proofs.lemmas.Bool.{cond-false, cond-true, le-ltb}
 use Rattle.std.proofs.lemmas.List.{append-nil}
 use Rattle.word_arith.specs.declared.size.Size.TheVariants.{Byte}
-use Rattle.bus_signals.specs.Map.{key_region, lies_in, stack_region}
+use Rattle.device_types.specs.Map.{key_region, lies_in, stack_region}
 use Rattle.device_trace.specs.Signals.{number_read}
 use Rattle.debug_session.specs.{Place.{Run, is_shown, logs_at, sight_at}, Shown.{byte_and, bytes_shown}, Sight.Sight}
 

@@ -4,7 +4,7 @@ use Rattle.std.specs.{Option.option_or, Prelude.{◌==◌, ◌&&◌, ◌||◌}}
 use Rattle.std.proofs.lemmas.Bool.{cases_Bool, cond-false, cond-true, false≢true}
 use Rattle.std.proofs.lemmas.Bool.Decides.{nat_tests}
 use Rattle.std.proofs.lemmas.List.{length_push}
-use Rattle.bus_signals.specs.{Kind.is_boot, declared.{bus_record.BusRecord.BusRecord, kind.Kind.{Kind, TheVariants.Idle}, rule.Rule.Rule}}
+use Rattle.device_types.specs.{Kind.is_boot, declared.{bus_record.BusRecord.BusRecord, kind.Kind.{Kind, TheVariants.Idle}, rule.Rule.Rule}}
 use Rattle.debug_session.specs.{Request.most_steps, declared.{command.Way.TheVariants.Ahead, seen_accesses.SeenAccesses.SeenAccesses, watch.{Hit.Hit, Watch.Watch}}, Cause.{behind, hit_on, hits, is_due}, Place.{Run, sight_at, step_at, step_sight, view_of}, Sight.{Sight, StepSight}, Stops.Stops, Watched.{first_hit, hits_of, last_hit}}
 use Rattle.debug_session.proofs.Views.{next-at, view-at}
 use Rattle.debug_walk.specs.{Stretch.{is_instruction, stretch_from, stretch_with}, Walk.{IsStretch, TellsCause, seen_at, stretch_past, stretch_there}, declared.stretch.Stretch.Stretch}

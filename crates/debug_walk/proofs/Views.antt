@@ -1,6 +1,6 @@
 -- What a device shows in the middle of a run is what the place has where it stands.
 use Rattle.std.proofs.Common.{◌≡◌, ℕ, suc, Bool, List, Some, subst}
-use Rattle.bus_signals.specs.{TraceFlag.Flag, declared.bus_record.BusRecord.BusRecord}
+use Rattle.device_types.specs.{TraceFlag.Flag, declared.bus_record.BusRecord.BusRecord}
 use Rattle.hmac_core.specs.Hash.{Hash}
 use Rattle.device_trace.specs.{Logs.{Logs, aux_of, exec_of}, Progress.{last_registers, stands_at_boundary}, Start.Start, Trace.{last_record, logs_after, trace}}
 use Rattle.play_script.specs.declared.playback.Playback.{Playback}

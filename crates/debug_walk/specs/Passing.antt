@@ -1,6 +1,6 @@
 -- Steps in a row in which there is nothing to stop for.
 use Rattle.std.specs.Prelude.{◌≡◌, ◌≤◌, ◌<◌, ◌-◌, ◌&&◌, ◌⊎◌, ℕ, suc, Bool, true, false, Option, Some, None, [], length, not}
-use Rattle.bus_signals.specs.{declared.{access.Access.{Access, TheVariants.Fetch}, kind.Kind.TheVariants.Idle}}
+use Rattle.device_types.specs.{declared.{access.Access.{Access, TheVariants.Fetch}, kind.Kind.TheVariants.Idle}}
 use Rattle.debug_session.specs.{Cause.{behind, hits, is_plain}, Place.{Run, sight_at, view_of}, Stops.{Stops, has_breakpoint}, Watched.is_hit}
 use Rattle.device_core.specs.Quiet.{Question}
 

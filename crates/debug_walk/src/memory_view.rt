@@ -5,8 +5,8 @@ ghost use Rattle.debug_walk.specs.Walk.{OfWalk};
 
 use crate::walk::Walk;
 use arrayvec::ArrayVec;
-use bus_signals::{KR, TraceFlag, XS};
 use device_core::Live;
+use device_types::{KR, TraceFlag, XS};
 use hmac_core::Digest32;
 
 /// The most bytes that are shown at once.

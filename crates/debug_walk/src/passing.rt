@@ -1,9 +1,9 @@
 ghost use Rattle.std.specs.Prelude.{◌≡◌};
 ghost use Rattle.debug_walk.specs.Passing.{goes_over, is_passed};
 
-use bus_signals::Access;
 use debug_session::StopList;
 use device_core::Quiet;
+use device_types::Access;
 
 /// What a row of steps goes over while a debugger looks for a cause: neither breakpoints nor
 /// watched bytes, and where each instruction counts, sleep alone.

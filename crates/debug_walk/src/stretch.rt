@@ -2,8 +2,8 @@ ghost use Rattle.std.specs.Prelude.{◌≡◌, ◌&&◌, ◌||◌, ◌<◌, None
 ghost use Rattle.debug_session.specs.Cause.{is_due, refusal_or};
 ghost use Rattle.debug_walk.specs.Stretch.{has_cause, is_instruction, stretch_from, stretch_of_last, stretch_with};
 
-use bus_signals::{BusRecord, Kind, Rule};
 use debug_session::{Hit, SeenAccesses, Watch};
+use device_types::{BusRecord, Kind, Rule};
 
 /// What the steps from a boundary on did, up to the next one.
 #[derive(Clone, Copy, Debug)]

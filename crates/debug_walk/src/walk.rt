@@ -7,10 +7,10 @@ ghost use Rattle.device_play.specs.Midway.{HasGoneOn};
 
 use crate::passing::Passing;
 use crate::stretch::Stretch;
-use bus_signals::ROM_ENTRY;
 use debug_session::{MOST_STEPS, SeenAccesses, StopList, Watch};
 use device_core::{AllQuiet, Live, NoneQuiet, Quiet};
 use device_play::{LineWatcher, TraceWatcher, Watcher, play_to_shown};
+use device_types::ROM_ENTRY;
 use execution_flags::AuxFlag;
 use hmac_core::Digest32;
 use play_script::Playback;

@@ -1,6 +1,6 @@
 -- The kinds of file that only a desk reads.
 use Rattle.std.specs.Prelude.{ℕ, List, Result, Ok, Err, if◌then◌else◌}
-use Rattle.bus_signals.specs.declared.version.Version.TheVariants.{Two}
+use Rattle.device_types.specs.declared.version.Version.TheVariants.{Two}
 use Rattle.text_scan.specs.{declared.{fault_at.FaultAt.FaultAt, fault_kind.FaultKind.TheVariants.Word}, Reader.◌>>=◌}
 use Rattle.report_verifier.specs.{Policy.PolicyFields, PolicyGrammar.policy_of, Verdict.same_version}
 use Rattle.verifier_desk.specs.DeviceKey.{DeviceKey, devices_of}

@@ -1,7 +1,7 @@
 -- A step whose report is judged.
 use Rattle.std.proofs.Common.{◌≡◌, ◌∷◌, List, Option, Result, Ok, Err, refl}
 use Rattle.std.specs.Prelude.{IsErrAnd}
-use Rattle.bus_signals.specs.{Address.Bytes, declared.event.Event.Event}
+use Rattle.device_types.specs.{Address.Bytes, declared.event.Event.Event}
 use Rattle.outside_edge.specs.Sink.{Puts, Takes}
 use Rattle.outside_edge.proofs.SinkLemmas.{prefix_after, takes_both}
 use Rattle.device_trace.specs.{Play.Play, Start.Start, Text.{last_report, lines_of_step, some_line}}

@@ -3,8 +3,8 @@ use Rattle.std.proofs.Common.{◌≡◌, ◌∙◌, ◌+◌, ◌++◌, ◌∷◌
 use Rattle.std.specs.Prelude.{if◌then◌else◌, map, option_map}
 use Rattle.std.specs.List.{concat}
 use Rattle.std.proofs.lemmas.List.{append_cancel_left}
-use Rattle.bus_signals.specs.{Address.{Bytes, Contents}, Bounds.are_valid, Map.metadata_region, Report.ReportFields, declared.{bounds.Bounds.Bounds, event.Event.Event}}
-use Rattle.bus_signals.proofs.ValidRange.{are_valid-ranges}
+use Rattle.device_types.specs.{Address.{Bytes, Contents}, Bounds.are_valid, Map.metadata_region, Report.ReportFields, declared.{bounds.Bounds.Bounds, event.Event.Event}}
+use Rattle.device_types.proofs.ValidRange.{are_valid-ranges}
 use Rattle.part_definitions.specs.{Memory.is_image_place, Metadata.bounds_in, Region.{bounded_bytes, bytes_between, metadata_bytes, output_bytes, rest_bytes}}
 use Rattle.hex_loader.specs.HexText.{hex_text}
 use Rattle.device_trace.specs.{Blank.SameOutside, Logs.Logs, Play.Play, Start.Start, Text.{end_line_after, last_report, lines_of, play_text, report_in, lines_of_step}, Trace.{byte_after, logs_after, released_words}}

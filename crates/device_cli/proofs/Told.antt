@@ -1,7 +1,7 @@
 -- What a command puts of a play before a watcher.
 use Rattle.std.proofs.Common.{◌≡◌, ◌≤◌, ◌⊎◌, [], ℕ, Result, Ok, Err, inl, inr, refl, length, sym, arith, append-nil, append_assoc}
 use Rattle.std.specs.Prelude.{IsErrAnd}
-use Rattle.bus_signals.specs.{Address.Bytes, TraceFlag.Flag}
+use Rattle.device_types.specs.{Address.Bytes, TraceFlag.Flag}
 use Rattle.hmac_core.specs.Hash.{Hash}
 use Rattle.outside_edge.specs.Sink.{Puts, Takes}
 use Rattle.hex_loader.specs.HexText.{hex_text}

@@ -2,7 +2,7 @@
 use Rattle.std.proofs.Common.{◌≡◌, Some, Result, Ok, Err}
 use Rattle.std.specs.Prelude.{IfErr}
 use Rattle.std.specs.declared.alloc.AllocError.{AllocError}
-use Rattle.bus_signals.specs.Address.{Bytes, Contents}
+use Rattle.device_types.specs.Address.{Bytes, Contents}
 use Rattle.device_cli.specs.{Power.IsWithoutDevice, Row.{DevicePlay, Outcome}}
 
 -- it is the one that a text is put of

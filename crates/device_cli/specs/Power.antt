@@ -1,6 +1,6 @@
 -- Why there is no memory for a text.
 use Rattle.std.specs.Prelude.{◌≡◌, Some}
-use Rattle.bus_signals.specs.Address.{Bytes, Contents}
+use Rattle.device_types.specs.Address.{Bytes, Contents}
 use Rattle.device_cli.specs.Row.{DevicePlay, Outcome}
 
 -- memory is refused to the device that a text is put of, which hangs on its key and its image alone:

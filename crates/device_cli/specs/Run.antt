@@ -1,6 +1,6 @@
 -- What a run of arguments that may spell a row does.
 use Rattle.std.specs.Prelude.{◌≡◌, ℕ, Option, Some, None}
-use Rattle.bus_signals.specs.Address.{Bytes}
+use Rattle.device_types.specs.Address.{Bytes}
 use Rattle.input_files.specs.{declared.status.Status.{Status, TheVariants.Words}, Reading.Files}
 use Rattle.device_cli.specs.{Answer.Answers, Row.Row}
 

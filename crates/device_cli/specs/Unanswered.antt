@@ -3,7 +3,7 @@ use Rattle.std.specs.Prelude.{◌+◌, ◌++◌, ◌&&◌, ℕ, Bool, true, fals
 use Rattle.std.specs.Fmt.{decimal}
 use Rattle.std.specs.List.{find, range_with_len, slice_get}
 use Rattle.std.specs.Option.{is_none, option_map_or}
-use Rattle.bus_signals.specs.Address.{Bytes}
+use Rattle.device_types.specs.Address.{Bytes}
 use Rattle.printed_lines.specs.Line.{line_of}
 use Rattle.device_trace.specs.Text.{some_line}
 use Rattle.report_verifier.specs.{declared.{asked.Asked.Asked, verdict.Verdict.Verdict}}

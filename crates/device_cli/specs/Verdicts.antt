@@ -1,6 +1,6 @@
 -- The verdicts on reports in their order.
 use Rattle.std.specs.Prelude.{◌+◌, ◌++◌, ◌&&◌, ℕ, Bool, true, false, List, [], ◌∷◌}
-use Rattle.bus_signals.specs.Report.{ReportFields}
+use Rattle.device_types.specs.Report.{ReportFields}
 use Rattle.report_text.specs.VerdictLine.{verdict_line}
 use Rattle.report_verifier.specs.{declared.verdict.Verdict.{Verdict, TheVariants.Accept}, Judge.{Judge, verdict_at}}
 

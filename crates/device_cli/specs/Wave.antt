@@ -1,6 +1,6 @@
 -- The command `wave`: the waveform of a play.
 use Rattle.std.specs.Prelude.{ℕ, List, Option}
-use Rattle.bus_signals.specs.Address.{Bytes}
+use Rattle.device_types.specs.Address.{Bytes}
 use Rattle.trace_files.specs.{WaveText.wave_file, WaveSamples.wave_samples}
 use Rattle.device_trace.specs.{Play.Play, Start.Start}
 use Rattle.device_cli.specs.{Row.Row, Play.{text_outcome, steps_row_of}}

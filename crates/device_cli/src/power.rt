@@ -1,5 +1,5 @@
-use bus_signals::TraceFlag;
 use device_core::{Device, Held, power_on};
+use device_types::TraceFlag;
 use execution_flags::AuxFlag;
 use hmac_core::{Digest32, Sha256Digest};
 use mem_map::Image;
@@ -11,7 +11,7 @@ pub type PoweredDevice = Device<Held, Sha256Digest, AuxFlag>;
 /// How devices are powered on.
 pub trait Power {
     ghost use Rattle.std.specs.Prelude.{[], IfErr, IfOk};
-    ghost use Rattle.bus_signals.specs.Address.{Bytes, Contents};
+    ghost use Rattle.device_types.specs.Address.{Bytes, Contents};
     ghost use Rattle.device_core.specs.Device.{HeldStandsFor};
     ghost use Rattle.mem_map.specs.Image.{byte_in, image_byte};
     ghost use Rattle.device_cli.specs.Play.{start_of};

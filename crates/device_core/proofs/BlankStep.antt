@@ -1,6 +1,6 @@
 -- A blanked record is one of the same step.
 use Rattle.std.proofs.Common.{◌≡◌, ◌∙◌, Option, Some, None, refl}
-use Rattle.bus_signals.specs.{declared.{access.Access.{Access, TheVariants.{Fetch, Read, Write}}, bus_record.BusRecord.BusRecord, signals.Signals.Signals}, Access.without_number, TraceFlag.IsRecordOf}
+use Rattle.device_types.specs.{declared.{access.Access.{Access, TheVariants.{Fetch, Read, Write}}, bus_record.BusRecord.BusRecord, signals.Signals.Signals}, Access.without_number, TraceFlag.IsRecordOf}
 use Rattle.device_trace.specs.Blank.{blank_access, blank_record}
 
 number_alone : (access : Option Access)

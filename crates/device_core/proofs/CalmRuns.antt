@@ -1,6 +1,6 @@
 -- A processor that runs, after a calm step.
 use Rattle.std.proofs.Common.{◌≡◌, ◌∙◌, ◌+◌, ℕ, true, false, Some, None, inl, inr, refl, sym, subst}
-use Rattle.bus_signals.specs.{declared.{access.Access.TheVariants.Fetch, kind.Kind.TheVariants.Cpu, region.Region.Region}, Address.even, TraceFlag.Flag}
+use Rattle.device_types.specs.{declared.{access.Access.TheVariants.Fetch, kind.Kind.TheVariants.Cpu, region.Region.Region}, Address.even, TraceFlag.Flag}
 use Rattle.part_definitions.specs.{CpuRegister.{Registers, pc_of}, CpuState.{CpuState, Boundary, Executing, Entering, cpu_after, is_at_boundary}, FirstRule.breaks_i1, NextAccess.is_illegal}
 use Rattle.hmac_core.specs.Hash.{Hash}
 use Rattle.msp_exec.specs.Course.{CpuStandsFor}

@@ -5,7 +5,7 @@ use Rattle.std.specs.List.{list_any}
 use Rattle.std.proofs.lemmas.Bool.{and_right}
 use Rattle.std.proofs.lemmas.Bool.Decides.{nat_tests}
 use Rattle.word_arith.specs.{declared.size.Size.{Size, TheVariants.{Byte, Word}}}
-use Rattle.bus_signals.specs.{declared.{access.Access.{Access, TheVariants.{Fetch, Read, Write}}, bounds.Bounds.Bounds, bus_record.BusRecord.BusRecord, kind.Kind.TheVariants.Cpu, region.Region.Region, signals.Signals.Signals}, Access.{some_writes, without_number}, Bounds.{executable_region, output_region}, ExecFlag.{fetches_outside, ran_at, ran_inside, writes_to}, Map.{is_within, key_region, lies_in, metadata_region, ram_region, rom_region, stack_region, timer_region, serial_region, dma_region, touches, some_touches, ROM_EXIT}, TraceFlag.{IsRecordOf, is_quiet}}
+use Rattle.device_types.specs.{declared.{access.Access.{Access, TheVariants.{Fetch, Read, Write}}, bounds.Bounds.Bounds, bus_record.BusRecord.BusRecord, kind.Kind.TheVariants.Cpu, region.Region.Region, signals.Signals.Signals}, Access.{some_writes, without_number}, Bounds.{executable_region, output_region}, ExecFlag.{fetches_outside, ran_at, ran_inside, writes_to}, Map.{is_within, key_region, lies_in, metadata_region, ram_region, rom_region, stack_region, timer_region, serial_region, dma_region, touches, some_touches, ROM_EXIT}, TraceFlag.{IsRecordOf, is_quiet}}
 use Rattle.part_definitions.specs.{CpuRegister.Registers, CpuState.{Boundary, Executing, Entering}, FirstRule.{first_rule, breaks_i1}, MonitorRule.{atomicity_rule, key_rule, in_rom, leaves_stack_and_mac, was_inside}, Dma.DmaEvent, Serial.{SerialEvent, byte_sent}, Timer.{TimerEvent, Tick}}
 use Rattle.device_trace.specs.{Logs.{Logs, peripherals_after, vector_of, vector_taken}, Peripherals.{serial_after, with_dma_access, with_timer_access}, Progress.{Progress, Held, InCall, Runs}, Step.record_from, Text.byte_sent_by}
 use Rattle.device_core.specs.{Calm.{IsCalm, is_above_rom, is_calm_access, is_free}, Silence.has_line}

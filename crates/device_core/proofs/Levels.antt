@@ -2,7 +2,7 @@
 use Rattle.std.proofs.Common.{◌≡◌, ◌∙◌, ◌⊎◌, ◌==◌, ◌++◌, ℕ, Bool, true, false, List, [], ◌∷◌, Option, None, Some, if◌then◌else◌, refl, ap, subst, inl, inr, arith}
 use Rattle.std.proofs.lemmas.Bool.{false≢true}
 use Rattle.std.proofs.lemmas.Bool.Decides.{nat_tests}
-use Rattle.bus_signals.specs.{declared.kind.Kind.{Kind, TheVariants.{Cpu, Idle, Irq}}, Kind.is_irq}
+use Rattle.device_types.specs.{declared.kind.Kind.{Kind, TheVariants.{Cpu, Idle, Irq}}, Kind.is_irq}
 use Rattle.msp_decode.specs.Head.{head_of}
 use Rattle.part_definitions.specs.{CpuRegister.Registers, CpuState.{CpuState, Boundary, Executing, Entering, completion_or, cpu_after, is_at_boundary}, NextAccess.{Next, Asks, Completes, next_access, entry_access}}
 use Rattle.msp_exec.specs.Level.{level_begun, level_entered}

@@ -1,6 +1,6 @@
 -- What the bus stands for, between two steps and within one.
 use Rattle.std.specs.Prelude.{Bool, false, ◌≡◌, ◌&&◌, ℕ, [], ◌∷◌, Option, Some, None, is_some, IfSome}
-use Rattle.bus_signals.specs.{declared.{access.Access.Access, bus_record.BusRecord.BusRecord, rule.Rule.Rule, signals.Signals.Signals}, TraceFlag.Flag, SeenRecord.{SeenHistory, SeenRecord}}
+use Rattle.device_types.specs.{declared.{access.Access.Access, bus_record.BusRecord.BusRecord, rule.Rule.Rule, signals.Signals.Signals}, TraceFlag.Flag, SeenRecord.{SeenHistory, SeenRecord}}
 use Rattle.part_definitions.specs.{Dma.dma_access, CpuRegister.Registers}
 use Rattle.mem_map.specs.Memory.{MemoryStandsFor}
 use Rattle.device_trace.specs.{Logs.{Logs, flags_of, flags_shown, vector_of, step_progress, vector_taken, with_record}, Progress.{next_pc_of, last_registers, tells_irq, fetches_opcode}, Signals.{signals_of, step_kind, proposed_access, value_read}, Start.Start, Step.{record_of, record_from, dma_value_read}}

@@ -1,6 +1,6 @@
 -- Calm steps: of the processor above the ROM, at which no rule, peripheral or line looks.
 use Rattle.std.specs.Prelude.{◌≡◌, ◌&&◌, ◌||◌, ℕ, Bool, true, false, not, Option, Some, None, map, nat_le, nat_lt}
-use Rattle.bus_signals.specs.{declared.{access.Access.{Access, TheVariants.{Fetch, Read, Write}}, kind.Kind.TheVariants.Cpu, region.Region.Region, signals.Signals.Signals}, Address.Address, Bounds.executable_region, ExecFlag.{last_pc, ran_inside}, Kind.is_cpu, Map.{is_within, lies_in, metadata_region, ram_region, rom_region}, TraceFlag.Flag}
+use Rattle.device_types.specs.{declared.{access.Access.{Access, TheVariants.{Fetch, Read, Write}}, kind.Kind.TheVariants.Cpu, region.Region.Region, signals.Signals.Signals}, Address.Address, Bounds.executable_region, ExecFlag.{last_pc, ran_inside}, Kind.is_cpu, Map.{is_within, lies_in, metadata_region, ram_region, rom_region}, TraceFlag.Flag}
 use Rattle.part_definitions.specs.Dma.{dma_access}
 use Rattle.device_trace.specs.{Blank.blank_seen, Logs.{Logs, aux_of, logged_bounds}, Signals.{signals_of, value_read}, Start.Start, Step.record_of}
 use Rattle.device_core.specs.{Bus.logs_after_step, FlagsKept.{KeepsFlags, has_flag}, Machine.{MachineStandsFor, StandsAfter}, Quiet.{GoesOver, IsOpen, Question}, declared.{machine.Machine.Machine, stage.Stage.TheVariants.Running, turn.Turn.Turn}}

@@ -1,6 +1,6 @@
 -- Steps that leave both flags as they are.
 use Rattle.std.specs.Prelude.{◌≡◌, ◌||◌, ◌∷◌, Bool, Option, map, true}
-use Rattle.bus_signals.specs.{declared.{bounds.Bounds.Bounds, bus_record.BusRecord.BusRecord, signals.Signals.Signals}, Address.Address, TraceFlag.{Flag, IsRecordOf, is_quiet}, SeenRecord.{SeenHistory, SeenRecord}, ExecFlag.exec}
+use Rattle.device_types.specs.{declared.{bounds.Bounds.Bounds, bus_record.BusRecord.BusRecord, signals.Signals.Signals}, Address.Address, TraceFlag.{Flag, IsRecordOf, is_quiet}, SeenRecord.{SeenHistory, SeenRecord}, ExecFlag.exec}
 use Rattle.device_trace.specs.{Blank.blank_seen, Logs.{Logs, aux_of, logged_bounds}, Start.Start}
 
 -- one of the flags is set

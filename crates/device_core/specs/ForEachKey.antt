@@ -1,5 +1,5 @@
 -- What holds of a device with any key.
-use Rattle.bus_signals.specs.{TraceFlag.Flag, Address.{Contents, Bytes}}
+use Rattle.device_types.specs.{TraceFlag.Flag, Address.{Contents, Bytes}}
 use Rattle.hmac_core.specs.Hash.{Hash}
 use Rattle.device_trace.specs.Start.{Start, with_key}
 use Rattle.mac_coverage.specs.Coverage.{IsDeviceKey, IsOfBytes}

@@ -1,6 +1,6 @@
 -- What a device keeps of the requests that it attests.
 use Rattle.std.specs.Prelude.{◌≡◌, ◌<◌, ◌≤◌, ◌++◌, ◌∷◌, ℕ, List, IsFalse}
-use Rattle.bus_signals.specs.{declared.event.Event.Event, Address.Bytes}
+use Rattle.device_types.specs.{declared.event.Event.Event, Address.Bytes}
 use Rattle.part_definitions.specs.Hmac.{Digest}
 use Rattle.device_trace.specs.{Start.Start, Trace.trace, Play.Play}
 use Rattle.request_freshness.specs.Freshness.{Attests, BeganAfter, IsRightlyRequested, ends_between_words, kept_counter}

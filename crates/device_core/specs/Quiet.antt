@@ -1,6 +1,6 @@
 -- Steps without events over quiet accesses.
 use Rattle.std.specs.Prelude.{◌≡◌, ◌-◌, ◌⊎◌, ℕ, Bool, true, [], ◌∷◌, Option, Some, None}
-use Rattle.bus_signals.specs.{declared.{access.Access.{Access, TheVariants.Fetch}, bus_record.BusRecord.BusRecord, kind.Kind.TheVariants.Idle}, Address.even, TraceFlag.Flag}
+use Rattle.device_types.specs.{declared.{access.Access.{Access, TheVariants.Fetch}, bus_record.BusRecord.BusRecord, kind.Kind.TheVariants.Idle}, Address.even, TraceFlag.Flag}
 use Rattle.part_definitions.specs.{CpuRegister.{Registers, pc_of}, CpuState.Boundary}
 use Rattle.hmac_core.specs.Hash.{Hash}
 use Rattle.device_trace.specs.{Logs.{Logs, flags_of}, Play.Play, Progress.Runs, Signals.step_kind, Start.Start, Step.{next_record, record_of}, Trace.logs_after}

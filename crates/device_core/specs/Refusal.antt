@@ -1,6 +1,6 @@
 -- What a refused step was about to do.
 use Rattle.std.specs.Prelude.{Option, Some, None}
-use Rattle.bus_signals.specs.{declared.{rule.Rule.Rule, signals.Signals.Signals}}
+use Rattle.device_types.specs.{declared.{rule.Rule.Rule, signals.Signals.Signals}}
 use Rattle.device_trace.specs.{Play.Play, Start.Start, Trace.{last_signals, trace}}
 use Rattle.device_core.specs.Silence.{last_rule}
 

@@ -1,6 +1,6 @@
 -- What the line of a step tells.
 use Rattle.std.specs.Prelude.{◌≡◌, ℕ, Option, Some, None}
-use Rattle.bus_signals.specs.{declared.rule.Rule.Rule, Report.{ReportFields, fields_of}}
+use Rattle.device_types.specs.{declared.rule.Rule.Rule, Report.{ReportFields, fields_of}}
 use Rattle.device_trace.specs.{Play.Play, Start.Start, Text.{last_byte_sent, last_denial, last_report}, Trace.trace}
 use Rattle.device_core.specs.{Silence.last_rule, declared.step_line.StepLine.{StepLine, TheVariants.{Sent, Reset, Report, Denied}}}
 

@@ -1,8 +1,8 @@
 ghost use Rattle.std.specs.Prelude.{◌≡◌, IfSome};
-ghost use Rattle.bus_signals.specs.Access.{IsFormed};
+ghost use Rattle.device_types.specs.Access.{IsFormed};
 ghost use Rattle.device_trace.specs.Blank.{blank_access, blank_value, blank_record};
 
-use bus_signals::{Access, BusRecord, KR, XS, touches};
+use device_types::{Access, BusRecord, KR, XS, touches};
 
 /// A record with the secrets blanked. Only steps of the ROM touch one.
 #[inline(always)]

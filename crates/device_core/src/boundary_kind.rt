@@ -1,10 +1,10 @@
 ghost use Rattle.std.specs.Prelude.{◌≡◌, ◌==◌, is_some, if◌then◌else◌};
-ghost use Rattle.bus_signals.specs.Map.{ROM_ENTRY};
+ghost use Rattle.device_types.specs.Map.{ROM_ENTRY};
 ghost use Rattle.part_definitions.specs.{CpuRegister.is_asleep, CpuState.{CpuState, registers_of}};
 ghost use Rattle.msp_exec.specs.Course.{CpuStandsFor};
 ghost use Rattle.device_trace.specs.Progress.{boundary_kind};
 
-use bus_signals::{CR, Kind, ROM_ENTRY};
+use device_types::{CR, Kind, ROM_ENTRY};
 use msp_exec::Cpu;
 
 /// Whose step comes next, at a boundary: a call of the ROM, code inside the ROM, an interrupt,

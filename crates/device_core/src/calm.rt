@@ -2,7 +2,7 @@ ghost use Rattle.std.specs.Prelude.{◌≡◌};
 ghost use Rattle.device_core.specs.Calm.{is_above_rom, is_calm_access, is_calm_turn, is_free};
 
 use crate::turn::Turn;
-use bus_signals::{Access, CR, Kind, META, PROGRAM, RAM, Region, VECTORS};
+use device_types::{Access, CR, Kind, META, PROGRAM, RAM, Region, VECTORS};
 
 /// All that is above the ROM.
 pub const ABOVE_ROM: Region = Region {

@@ -1,6 +1,6 @@
 ghost use Rattle.std.specs.Prelude.{◌≡◌, None};
 
-use bus_signals::{Bounds, BusRecord, Signals};
+use device_types::{Bounds, BusRecord, Signals};
 
 /// A step that was made or refused.
 #[derive(Clone, Copy, Debug)]

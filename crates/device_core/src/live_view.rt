@@ -6,7 +6,7 @@ ghost use Rattle.device_core.specs.Device.{OfLive};
 
 use crate::access::number_read;
 use crate::live::Live;
-use bus_signals::TraceFlag;
+use device_types::TraceFlag;
 use hmac_core::Digest32;
 use word_arith::Size;
 

@@ -1,9 +1,9 @@
-use bus_signals::Access;
+use device_types::Access;
 
 /// Which steps a row goes over, by the accesses of processor or ROM and of the DMA.
 pub trait Quiet {
     ghost use Rattle.std.specs.Prelude.{◌≡◌, Bool, Option as Maybe};
-    ghost use Rattle.bus_signals.specs.declared.access.Access.{Access as Made};
+    ghost use Rattle.device_types.specs.declared.access.Access.{Access as Made};
 
     ghost quiet: { Self → Maybe Made → Maybe Made → Bool };
 

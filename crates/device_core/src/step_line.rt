@@ -3,7 +3,7 @@ ghost use Rattle.device_trace.specs.Text.{byte_sent_in};
 ghost use Rattle.device_core.specs.StepLine.{byte_in_line, rule_in_line, report_in_line, denied_in_line};
 
 use crate::record::byte_sent_in;
-use bus_signals::{BusRecord, ReportView, Rule};
+use device_types::{BusRecord, ReportView, Rule};
 
 /// The line of a step, which says what the step did that can be seen from outside.
 #[derive(Drop)]

@@ -2,7 +2,7 @@
 use Rattle.std.proofs.Common.{◌≡◌, ◌≤◌, ◌+◌, ◌∙◌, ◌⊎◌, ⊎_elim, ℕ, zero, suc, Bool, true, false, Option, Some, None, is_some, refl, ap, sym, subst, arith}
 use Rattle.std.specs.Prelude.{◌<◌, nat_lt, if◌then◌else◌}
 use Rattle.std.proofs.lemmas.Bool.{cond-false, cond-true, le-ltb, lt-ltb}
-use Rattle.bus_signals.specs.{declared.{bus_record.BusRecord.BusRecord, rule.Rule.Rule}}
+use Rattle.device_types.specs.{declared.{bus_record.BusRecord.BusRecord, rule.Rule.Rule}}
 use Rattle.device_core.specs.Silence.{last_rule}
 use Rattle.device_trace.specs.Trace.{last_record, trace}
 use Rattle.debug_session.specs.{Request.most_steps, Cause.refusal_or, Place.{Run, logs_at, no_step, play_to, sight_at, step_at, step_sight, view_of}, Sight.{Sight, StepSight}}

@@ -1,6 +1,6 @@
 -- Going forwards.
 use Rattle.std.specs.Prelude.{ℕ, zero, suc, Option, Some, None, is_some, nat_lt, if◌then◌else◌}
-use Rattle.bus_signals.specs.declared.rule.Rule.{Rule}
+use Rattle.device_types.specs.declared.rule.Rule.{Rule}
 use Rattle.debug_session.specs.{Request.most_steps, declared.command.Way.TheVariants.Ahead, Cause.{Seek, Step, refusal_or}, Sight.View}
 
 abbrev pub seek_ahead : Option Step → Seek

@@ -1,6 +1,6 @@
 -- A walk that went to where a debugger stops.
 use Rattle.std.specs.Prelude.{◌≡◌, ◌≤◌, ◌⊎◌, ◌++◌, ℕ, codes, Option, Some, None, Result, IfOk, OnErr, OnOk}
-use Rattle.bus_signals.specs.declared.rule.Rule.{Rule}
+use Rattle.device_types.specs.declared.rule.Rule.{Rule}
 use Rattle.debug_session.specs.{Request.most_steps, declared.{command.Way.TheVariants.Ahead, stop.Stop.{Stop, TheVariants.Refused}}, Going.Standing, Place.{Run, view_of}, Session.lines_to}
 use Rattle.debug_link.specs.{Console.console, Packet.packets_of, Writing.{HasPut, PacketSink, PutsPackets}, declared.answer_fault.AnswerFault.AnswerFault}
 use Rattle.debug_walk.specs.{Copies.IsAt, Walk.{IsFresh, Walks, place_of}, declared.walk.Walk.Walk}

@@ -3,9 +3,9 @@ ghost use Rattle.debug_session.specs.{declared.command.Way.TheVariants.Ahead, Ca
 ghost use Rattle.debug_walk.specs.Walk.{OfWalk, TellsCause};
 ghost use Rattle.device_debug.specs.Seek.{cause_before, step_in, steps_by};
 
-use bus_signals::Rule;
 use debug_session::{Going, Hit, Stop, StopList};
 use debug_walk::{Stretch, Walk};
+use device_types::Rule;
 use hmac_core::Digest32;
 
 /// Where a debugger stops, besides where it has to: at a step's end, of this level or below, with

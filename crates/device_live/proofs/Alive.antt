@@ -1,6 +1,6 @@
 -- The device of a life.
 use Rattle.std.proofs.Common.{◌≡◌, ◌∙◌, ℕ, Some, None, length, sym}
-use Rattle.bus_signals.specs.{Address.Bytes, TraceFlag.Flag}
+use Rattle.device_types.specs.{Address.Bytes, TraceFlag.Flag}
 use Rattle.hmac_core.specs.Hash.{Hash}
 use Rattle.printed_lines.specs.Line.{place_line}
 use Rattle.device_trace.specs.{Logs.exec_of, Progress.next_pc_of, Start.Start, Trace.logs_after}

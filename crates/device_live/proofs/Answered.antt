@@ -2,7 +2,7 @@
 use Rattle.std.proofs.Common.{◌≡◌, ◌≤◌, ◌<◌, ◌-◌, ◌++◌, ◌∙◌, ℕ, true, false, List, [], Result, Ok, Err, refl, sym, arith, append-nil}
 use Rattle.std.specs.Prelude.{IsErrAnd, nat_lt}
 use Rattle.std.proofs.lemmas.Bool.Decides.{nat_tests}
-use Rattle.bus_signals.specs.{Address.Bytes, TraceFlag.Flag, declared.event.Event.Event}
+use Rattle.device_types.specs.{Address.Bytes, TraceFlag.Flag, declared.event.Event.Event}
 use Rattle.hmac_core.specs.Hash.{Hash}
 use Rattle.outside_edge.specs.{Count.Rose, Sink.{CountsFaults, Puts, Takes, TakesPrefix}, declared.sink.Failed.Failed}
 use Rattle.outside_edge.specs.declared.sink.Sink as sink

@@ -4,7 +4,7 @@ use Rattle.std.specs.Prelude.{nat_lt, suc}
 use Rattle.std.proofs.lemmas.Bool.{cases_Bool}
 use Rattle.std.proofs.lemmas.Bool.Decides.{nat_tests}
 use Rattle.std.proofs.lemmas.List.{append-nil}
-use Rattle.bus_signals.specs.{Address.Bytes, declared.event.Event.Event}
+use Rattle.device_types.specs.{Address.Bytes, declared.event.Event.Event}
 use Rattle.play_script.specs.{Grammar.{ScriptSoFar, timed_events, with_entry}, Script.{TimedEvent, events_of}}
 use Rattle.text_scan.specs.{Reader.◌>>=◌, Word.{is_passed_over, words_of}, declared.fault_kind.FaultKind.FaultKind}
 use Rattle.device_trace.specs.{Play.Play, Start.Start, Text.lines_of, Trace.play_of}

@@ -1,6 +1,6 @@
 -- The line that shows bytes, as it is put.
 use Rattle.std.proofs.Common.{◌≡◌, ◌<◌, ◌++◌, ℕ, [], ◌∷◌, ap, append_assoc, arith, codes, length, sym}
-use Rattle.bus_signals.specs.Address.{Bytes}
+use Rattle.device_types.specs.Address.{Bytes}
 use Rattle.hex.specs.Hex.{encode_lower}
 use Rattle.printed_lines.specs.Line.{word_digits}
 use Rattle.device_live.specs.Shown.{memory_text}

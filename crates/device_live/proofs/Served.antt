@@ -4,7 +4,7 @@ use Rattle.std.specs.Prelude.{codes, nat_eq}
 use Rattle.std.specs.Str.Lines.{strip_carriage_return}
 use Rattle.std.specs.declared.alloc.AllocError.{AllocError}
 use Rattle.std.proofs.lemmas.Bool.{cases_Bool}
-use Rattle.bus_signals.specs.{Address.Bytes, TraceFlag.Flag}
+use Rattle.device_types.specs.{Address.Bytes, TraceFlag.Flag}
 use Rattle.hmac_core.specs.Hash.{Hash}
 use Rattle.outside_edge.specs.{Buffer.{Buffer, BufferStandsFor}, Count.Rose, Sink.{CountsFaults, Puts, Takes, TakesPrefix}, declared.sink.Failed.Failed}
 use Rattle.outside_edge.specs.declared.sink.Sink as sink

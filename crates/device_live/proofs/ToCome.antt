@@ -1,7 +1,7 @@
 -- What a device that lives keeps of what is to come.
 use Rattle.std.proofs.Common.{◌≡◌, ◌≤◌, ◌∙◌, ◌++◌, ℕ, true, false, List, Ok, Err, refl, ap, sym, arith}
 use Rattle.std.specs.Prelude.{nat_lt}
-use Rattle.bus_signals.specs.{TraceFlag.Flag, declared.event.Event.Event}
+use Rattle.device_types.specs.{TraceFlag.Flag, declared.event.Event.Event}
 use Rattle.hmac_core.specs.Hash.{Hash}
 use Rattle.play_script.specs.{Grammar.{ScriptSoFar, timed_events, with_entry}, Script.{TimedEvent, events_of, from_step}}
 use Rattle.play_script.proofs.Passing.{events_from}

@@ -4,7 +4,7 @@ use Rattle.std.specs.List.{filter}
 use Rattle.std.specs.Prelude.{nat_eq}
 use Rattle.std.proofs.lemmas.List.{append-nil, map-append}
 use Rattle.std.proofs.lemmas.List.Elements.{filter-append}
-use Rattle.bus_signals.specs.{Address.Bytes, declared.event.Event.Event}
+use Rattle.device_types.specs.{Address.Bytes, declared.event.Event.Event}
 use Rattle.play_script.specs.{Grammar.timed_events, Script.{TimedEvent, events_of}}
 use Rattle.play_script.proofs.Steps.{events_of-other}
 use Rattle.device_trace.specs.{Start.Start, Text.{lines_of, lines_of_step}, Trace.play_of}

@@ -1,7 +1,7 @@
 -- What a device that lives answers to a line.
 use Rattle.std.specs.Prelude.{ℕ, ◌-◌, [], ◌∷◌, Result, Ok, Err, codes}
 use Rattle.std.specs.Fmt.{decimal}
-use Rattle.bus_signals.specs.Address.{Bytes}
+use Rattle.device_types.specs.Address.{Bytes}
 use Rattle.printed_lines.specs.Line.{line_of, place_line}
 use Rattle.text_scan.specs.{declared.fault_kind.FaultKind.FaultKind, FaultName.fault_name, Reader.◌>>=◌}
 use Rattle.device_trace.specs.{Logs.exec_of, Progress.{last_registers, next_pc_of}, Start.Start, Trace.logs_after}

@@ -1,6 +1,6 @@
 -- A device that lives, and whoever tells it lines: what is put, line by line.
 use Rattle.std.specs.Prelude.{ℕ, ◌++◌, suc, List, [], ◌∷◌, length, codes, Option, Some, None, Result, Ok, Err, if◌then◌else◌}
-use Rattle.bus_signals.specs.Address.{Bytes}
+use Rattle.device_types.specs.Address.{Bytes}
 use Rattle.text_scan.specs.{declared.fault_kind.FaultKind.{FaultKind, TheVariants.TooLong}, Reader.◌>>=◌, Word.{is_passed_over, words_of}}
 use Rattle.source_server.specs.HeldLine.{short_line}
 use Rattle.device_trace.specs.Start.{Start}

@@ -1,6 +1,6 @@
 -- A device that lives as the code has it, and what a call answers of a line.
 use Rattle.std.specs.Prelude.{◌≡◌, ◌≤◌, ◌-◌, ◌++◌, ℕ, List, Some, Result, Ok, Err}
-use Rattle.bus_signals.specs.{Address.Bytes, declared.event.Event.Event, TraceFlag.Flag}
+use Rattle.device_types.specs.{Address.Bytes, declared.event.Event.Event, TraceFlag.Flag}
 use Rattle.hmac_core.specs.Hash.{Hash}
 use Rattle.std.specs.declared.alloc.AllocError.{AllocError}
 use Rattle.outside_edge.specs.{Count.Rose, Sink.{Takes, TakesPrefix}}

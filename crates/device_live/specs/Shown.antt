@@ -1,6 +1,6 @@
 -- The lines that show registers and bytes.
 use Rattle.std.specs.Prelude.{ℕ, List, [], ◌∷◌, map, codes}
-use Rattle.bus_signals.specs.Address.{Bytes}
+use Rattle.device_types.specs.Address.{Bytes}
 use Rattle.hex.specs.Hex.{encode_lower}
 use Rattle.printed_lines.specs.Line.{line_of, word_digits}
 

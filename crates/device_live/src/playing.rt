@@ -4,9 +4,9 @@ ghost use Rattle.device_trace.specs.Start.{Start};
 ghost use Rattle.device_core.specs.Device.{LiveStandsFor};
 ghost use Rattle.device_live.specs.{Life.{Life, play_lived}, Living.{KeepsToCome, PlaysOn}};
 
-use bus_signals::TraceFlag;
 use device_core::{AllQuiet, Live};
 use device_play::{LineWatcher, play_to_shown, print_last_step};
+use device_types::TraceFlag;
 use hmac_core::Digest32;
 use outside_edge::{Failed, Sink};
 use play_script::OpenScript;

@@ -5,7 +5,7 @@ ghost use Rattle.device_live.specs.{Answer.refusal_line, Conversation.answer_to,
 
 use crate::line_fault::LineFault;
 use crate::living::Living;
-use bus_signals::TraceFlag;
+use device_types::TraceFlag;
 use hmac_core::Digest32;
 use line_buffer::LineBuffer;
 use named_value::Named;

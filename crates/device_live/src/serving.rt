@@ -6,8 +6,8 @@ ghost use Rattle.device_core.specs.Device.{HeldStandsFor};
 ghost use Rattle.device_live.specs.{Answer.standing_line, Faults.end_with, Life.Life, Living.LivingStandsFor, Serving.life_promise};
 
 use crate::living::Living;
-use bus_signals::TraceFlag;
 use device_core::{Device, Held};
+use device_types::TraceFlag;
 use hmac_core::Digest32;
 use outside_edge::{BufferedSink, Failed, Sink, Source};
 use source_server::{HeldLine, Lines, Served, serve};

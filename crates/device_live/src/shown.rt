@@ -4,9 +4,9 @@ ghost use Rattle.device_core.specs.Device.{LiveStandsFor};
 ghost use Rattle.device_trace.specs.Start.{Start};
 ghost use Rattle.device_live.specs.{Answer.{memory_line, registers_line}, Life.{Life, play_lived}, Shown.{memory_text, registers_text}};
 
-use bus_signals::TraceFlag;
 use debug_walk::live_bytes;
 use device_core::Live;
+use device_types::TraceFlag;
 use hmac_core::Digest32;
 use line_buffer::LineBuffer;
 use outside_edge::{Failed, Sink, put_all};

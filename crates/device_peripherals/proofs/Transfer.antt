@@ -5,7 +5,7 @@ use Rattle.std.proofs.lemmas.Bool.{cases_Bool, true≢false}
 use Rattle.std.proofs.lemmas.Bool.Decides.{nat_tests}
 use Rattle.part_definitions.specs.{PeripheralRegister.register_word, Dma.{DmaEvent, TransferStart, Store, DmaAccess, DeviceReset, Transfer, transfer_of, transfer_access, access_at, dma_access, dma_word, DMA_CONTROL, is_active, after_start, starts, dma_writes, DMA_SOURCE, DMA_DESTINATION, DMA_LENGTH, after_access, new_transfer, place_of_word, latch}}
 use Rattle.word_arith.specs.{declared.size.Size.{Size, TheVariants.Word}}
-use Rattle.bus_signals.specs.{declared.access.Access.{Access, TheVariants.{Read, Write}}}
+use Rattle.device_types.specs.{declared.access.Access.{Access, TheVariants.{Read, Write}}}
 use Rattle.device_peripherals.specs.Distance.{Start, start_of, is_reset, values_of, IsUnderWay, GoesByDistance}
 
 -- a transfer of this start, of which these values were taken

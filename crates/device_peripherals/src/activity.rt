@@ -1,8 +1,8 @@
 ghost use Rattle.std.specs.Prelude.{◌≡◌, ◌%◌, ◌<◌, IfSome};
-ghost use Rattle.bus_signals.specs.Access.{IsFormed};
+ghost use Rattle.device_types.specs.Access.{IsFormed};
 ghost use Rattle.part_definitions.specs.{Dma.{new_transfer, transfer_access, is_active, after_start, after_access}, Part.{Answers, Becomes}};
 
-use bus_signals::{Access, even};
+use device_types::{Access, even};
 use word_arith::Size;
 
 /// What is left of a transfer: the places of its next word, and the number of its words.

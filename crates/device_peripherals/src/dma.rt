@@ -1,11 +1,11 @@
 ghost use Rattle.std.specs.Prelude.{◌≡◌, false, [], ◌∷◌, List, IfSome};
-ghost use Rattle.bus_signals.specs.Access.{IsFormed};
+ghost use Rattle.device_types.specs.Access.{IsFormed};
 ghost use Rattle.part_definitions.specs.{Part.{Takes, Answers}, Dma.{DmaEvent, TransferStart, Store, DmaAccess, DeviceReset, dma_read, dma_word, dma_access, is_free}};
 
 use crate::activity::Activity;
 use crate::part::{covers_byte, part_of_word, register_place};
 use crate::register::Register;
-use bus_signals::{Access, BusMaster, DMA};
+use device_types::{Access, BusMaster, DMA};
 use word_arith::Size;
 
 const DCTL: u16 = DMA.first;

@@ -1,7 +1,7 @@
 ghost use Rattle.std.specs.Prelude.{◌≡◌};
 ghost use Rattle.part_definitions.specs.PeripheralRegister.{register_of, covers, part_of};
 
-use bus_signals::even;
+use device_types::even;
 use word_arith::Size;
 
 /// The address of the register that the byte at `place` belongs to.

@@ -5,8 +5,8 @@ use crate::part::{covers_byte, part_of_word, register_place};
 use crate::register::Register;
 use crate::sent_byte::byte_sent;
 use crate::taken_byte::{SRXD, takes_byte};
-use bus_signals::SERIAL;
 use circular_buffer::HeapCircularBuffer;
+use device_types::SERIAL;
 use std::alloc::{AllocError, Global};
 use word_arith::Size;
 

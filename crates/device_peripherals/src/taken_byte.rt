@@ -2,7 +2,7 @@ ghost use Rattle.std.specs.Prelude.{◌≡◌};
 ghost use Rattle.part_definitions.specs.Serial.{takes_byte};
 
 use crate::part::covers_byte;
-use bus_signals::SERIAL;
+use device_types::SERIAL;
 use word_arith::Size;
 
 /// The register that gives the oldest byte that waits.

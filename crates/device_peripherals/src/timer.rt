@@ -3,7 +3,7 @@ ghost use Rattle.part_definitions.specs.{Part.{Takes, Answers, Becomes}, Timer.{
 
 use crate::part::{part_of_word, register_place};
 use crate::register::Register;
-use bus_signals::TIMER;
+use device_types::TIMER;
 use word_arith::Size;
 
 const TCTL: u16 = TIMER.first;

@@ -1,7 +1,7 @@
 -- A play whose next steps have no events.
 use Rattle.std.proofs.Common.{◌≡◌, ◌≤◌, ◌<◌, ◌+◌, ◌-◌, ℕ, Bool, subst, zero, suc, true, false, List, [], ◌∷◌, length, refl, sym, ap, ⊎_elim, arith}
 use Rattle.std.proofs.lemmas.Bool.{cases_lt, false_from_ne_true}
-use Rattle.bus_signals.specs.{declared.event.Event.Event, TraceFlag.Flag}
+use Rattle.device_types.specs.{declared.event.Event.Event, TraceFlag.Flag}
 use Rattle.hmac_core.specs.Hash.{Hash}
 use Rattle.device_trace.specs.{Play.Play, Start.Start, Trace.play_of}
 use Rattle.play_script.specs.declared.playback.Playback.{Playback}

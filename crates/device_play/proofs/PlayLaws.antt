@@ -1,7 +1,7 @@
 -- A play obeys the laws of the device.
 use Rattle.std.proofs.Common.{◌≡◌, ◌∙◌, Bool, Some, ap, subst, sym}
 use Rattle.std.proofs.lemmas.Bool.{false≢true}
-use Rattle.bus_signals.specs.{Address.{Bytes, Contents}, Report.ReportFields, SeenRecord.SeenHistory, declared.bounds.Bounds.Bounds}
+use Rattle.device_types.specs.{Address.{Bytes, Contents}, Report.ReportFields, SeenRecord.SeenHistory, declared.bounds.Bounds.Bounds}
 use Rattle.part_definitions.specs.{Hmac.Digest, Request.ATTESTS}
 use Rattle.device_trace.specs.{Play.Play, RegionRun.{TrustedRun, WholeRun}, Start.{Start, with_key}, Text.last_report, Trace.trace}
 use Rattle.trace_facts.proofs.{NeverBroken.trace-names_neither, LastReport.last_report-made, RomCode.trace-in_call}

@@ -1,6 +1,6 @@
 -- What a device tells of its last step is the line of that step.
 use Rattle.std.proofs.Common.{◌≡◌, ◌≤◌, ◌∙◌, [], ◌∷◌, ℕ, suc, Bool, true, false, List, Option, Some, None, Ok, Result, option_map, refl, sym, ap, subst, length, arith}
-use Rattle.bus_signals.specs.{declared.{access.Access.{Access, TheVariants.{Fetch, Read, Write}}, bounds.Bounds.Bounds, bus_record.BusRecord.BusRecord, event.Event.Event, rule.Rule.{Rule, TheVariants.X0}, signals.Signals.Signals}}
+use Rattle.device_types.specs.{declared.{access.Access.{Access, TheVariants.{Fetch, Read, Write}}, bounds.Bounds.Bounds, bus_record.BusRecord.BusRecord, event.Event.Event, rule.Rule.{Rule, TheVariants.X0}, signals.Signals.Signals}}
 use Rattle.outside_edge.specs.Sink.{Puts}
 use Rattle.std.specs.Option.{option_or}
 use Rattle.part_definitions.specs.FirstRule.{first_rule, rule_where}

@@ -1,6 +1,6 @@
 -- What a device tells of its last step is what a waveform shows of it.
 use Rattle.std.proofs.Common.{◌≡◌, [], ◌∷◌, ℕ, suc, List, Some, Result, refl, sym, ap, subst, length, ◌∙◌}
-use Rattle.bus_signals.specs.{declared.{bus_record.BusRecord.BusRecord, event.Event.Event}}
+use Rattle.device_types.specs.{declared.{bus_record.BusRecord.BusRecord, event.Event.Event}}
 use Rattle.outside_edge.specs.Sink.{Puts}
 use Rattle.part_definitions.specs.Pins.{pins_word}
 use Rattle.device_trace.specs.{Logs.{with_events, with_record}, Play.Play, Start.Start, Step.next_record, Text.byte_sent_in, Trace.{last_record, logs_after, trace}}

@@ -1,6 +1,6 @@
 -- What a watcher says of plays.
 use Rattle.std.specs.Prelude.{◌≡◌, ◌++◌, ◌∷◌, Bool, true, false, List, [], Contains}
-use Rattle.bus_signals.specs.{Address.Bytes, declared.event.Event.Event}
+use Rattle.device_types.specs.{Address.Bytes, declared.event.Event.Event}
 use Rattle.device_trace.specs.{Play.Play, Start.Start}
 use Rattle.device_core.specs.Silence.{is_silent}
 

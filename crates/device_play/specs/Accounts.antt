@@ -1,6 +1,6 @@
 -- What `play`, `dump`, `trace` and `wave` say of a play.
 use Rattle.std.specs.Prelude.{◌++◌, [], ℕ, List, Option, Some, None, length, if◌then◌else◌}
-use Rattle.bus_signals.specs.{Address.Bytes, declared.event.Event.Event}
+use Rattle.device_types.specs.{Address.Bytes, declared.event.Event.Event}
 use Rattle.part_definitions.specs.Memory.{is_image_place}
 use Rattle.hex_loader.specs.HexText.{hex_text}
 use Rattle.device_trace.specs.{Play.Play, Start.Start, Text.{lines_of, lines_of_step, end_line_after}, Trace.{byte_after, logs_after}}

@@ -1,6 +1,6 @@
 -- Where the putting of a text stops when memory runs out.
 use Rattle.std.specs.Prelude.{◌≡◌, ◌≤◌, ◌++◌, ◌⊎◌, List, ℕ, Result, IfErr, OnOk, Contains, map}
-use Rattle.bus_signals.specs.Address.{Bytes}
+use Rattle.device_types.specs.Address.{Bytes}
 use Rattle.outside_edge.specs.{Count.Rose, Sink.Takes}
 use Rattle.device_play.specs.{declared.put_fault.PutFault.{PutFault, TheVariants.{Write, Memory}}}
 

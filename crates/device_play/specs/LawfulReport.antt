@@ -1,6 +1,6 @@
 -- What a report tells of the moment at which it is made.
 use Rattle.std.specs.Prelude.{◌≡◌, ◌<◌, ◌++◌, length}
-use Rattle.bus_signals.specs.{Address.Bytes, Report.ReportFields}
+use Rattle.device_types.specs.{Address.Bytes, Report.ReportFields}
 use Rattle.part_definitions.specs.{Hmac.Digest, TrustedFlag.aux}
 use Rattle.device_trace.specs.{Play.Play, Report.{AuxMeansTrustedRun, ExecMeansWholeRun}, Start.Start}
 use Rattle.mac_coverage.specs.{AttestedBytes.{AttestedBytes, tag_of}, Coverage.{Gives32Bytes, attested_after, call_length}}

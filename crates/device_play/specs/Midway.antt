@@ -1,6 +1,6 @@
 -- A device in the middle of a play.
 use Rattle.std.specs.Prelude.{◌≡◌, ◌≤◌, ◌<◌, ◌+◌, ℕ, suc, Bool, true, List, [], None}
-use Rattle.bus_signals.specs.{declared.event.Event.Event, TraceFlag.Flag}
+use Rattle.device_types.specs.{declared.event.Event.Event, TraceFlag.Flag}
 use Rattle.hmac_core.specs.Hash.{Hash}
 use Rattle.device_trace.specs.{Start.Start, Trace.{logs_after, play_of}}
 use Rattle.play_script.specs.{Playback.events_left, declared.playback.Playback.Playback}

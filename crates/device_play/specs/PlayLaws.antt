@@ -1,6 +1,6 @@
 -- What the laws of the device say of a play.
 use Rattle.std.specs.Prelude.{◌≡◌, All}
-use Rattle.bus_signals.specs.Address.{Bytes}
+use Rattle.device_types.specs.Address.{Bytes}
 use Rattle.part_definitions.specs.{Hmac.Digest, TrustedFlag.aux}
 use Rattle.device_trace.specs.{Moment.EachMoment, Play.Play, Report.EachReport, Start.Start, Trace.trace}
 use Rattle.trace_facts.specs.{Naming.NamesNeitherA1NorK3, RomCode.RunsRomInCall}

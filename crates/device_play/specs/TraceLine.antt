@@ -1,6 +1,6 @@
 -- What the line of a step shows.
 use Rattle.std.specs.Prelude.{ℕ, Bool, Option, Some, None}
-use Rattle.bus_signals.specs.{declared.{access.Access.{Access, TheVariants.{Fetch, Read, Write}}, bus_record.BusRecord.BusRecord, signals.Signals.Signals}}
+use Rattle.device_types.specs.{declared.{access.Access.{Access, TheVariants.{Fetch, Read, Write}}, bus_record.BusRecord.BusRecord, signals.Signals.Signals}}
 use Rattle.device_trace.specs.Blank.{blank_value}
 use Rattle.trace_files.specs.TraceText.{word_shown}
 

@@ -1,6 +1,6 @@
 -- A play before a watcher.
 use Rattle.std.specs.Prelude.{◌≡◌, ◌++◌, ◌∷◌, [], ℕ, List, length, Contains, Result, IfOk, OnOk}
-use Rattle.bus_signals.specs.{Address.Bytes, declared.event.Event.Event, TraceFlag.Flag}
+use Rattle.device_types.specs.{Address.Bytes, declared.event.Event.Event, TraceFlag.Flag}
 use Rattle.hmac_core.specs.Hash.{Hash}
 use Rattle.outside_edge.specs.Sink.{Puts}
 use Rattle.device_trace.specs.{Play.Play, Start.Start}

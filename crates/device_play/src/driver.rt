@@ -1,5 +1,5 @@
 ghost use Rattle.std.specs.Prelude.{◌≡◌, ◌<◌, ◌≤◌, ◌^◌, [], ℕ, List, true};
-ghost use Rattle.bus_signals.specs.declared.event.Event.{Event};
+ghost use Rattle.device_types.specs.declared.event.Event.{Event};
 ghost use Rattle.device_trace.specs.{Start.Start, Trace.play_of};
 ghost use Rattle.play_script.specs.Script.{events_of};
 ghost use Rattle.device_core.specs.Device.{HasStepped, HeldStandsFor, steps_made};
@@ -7,8 +7,8 @@ ghost use Rattle.device_play.specs.{Cuts.CountsWriteFaults, Midway.{IsMidway, Ha
 
 use crate::put_fault::PutFault;
 use crate::watcher::Watcher;
-use bus_signals::TraceFlag;
 use device_core::{AllQuiet, Device, Held, Live, Quiet};
+use device_types::TraceFlag;
 use hmac_core::Digest32;
 use outside_edge::Sink;
 use play_script::{Playback, Script};

@@ -1,8 +1,8 @@
 use crate::line_watcher::LineWatcher;
 use crate::put_fault::PutFault;
 use crate::watcher::Watcher;
-use bus_signals::TraceFlag;
 use device_core::Live;
+use device_types::TraceFlag;
 use hex_loader::write_memory;
 use hmac_core::Digest32;
 use outside_edge::{Failed, Sink};

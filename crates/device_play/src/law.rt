@@ -1,4 +1,4 @@
-ghost use Rattle.bus_signals.specs.Address.{Bytes};
+ghost use Rattle.device_types.specs.Address.{Bytes};
 ghost use Rattle.part_definitions.specs.Hmac.{Digest};
 ghost use Rattle.device_trace.specs.{Play.Play, Report.EachReport, Start.Start};
 ghost use Rattle.device_play.specs.{LawfulReport.IsLawfulReport, PlayLaws.ObeysLaws};

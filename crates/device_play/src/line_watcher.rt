@@ -1,5 +1,5 @@
 ghost use Rattle.std.specs.Prelude.{◌≡◌, ◌++◌, ◌∷◌, List, Some, length};
-ghost use Rattle.bus_signals.specs.declared.event.Event.{Event};
+ghost use Rattle.device_types.specs.declared.event.Event.{Event};
 ghost use Rattle.outside_edge.specs.Sink.{Puts, CountsFaults};
 ghost use Rattle.device_trace.specs.{Play.Play, Start.Start, Text.{some_line, lines_of_step}};
 ghost use Rattle.printed_lines.specs.Line.{sent_line, reset_line, report_line, denied_line};
@@ -8,8 +8,8 @@ ghost use Rattle.device_play.specs.Accounts.{end_line_of};
 
 use crate::put_fault::PutFault;
 use crate::watcher::Watcher;
-use bus_signals::TraceFlag;
 use device_core::{Live, StepLine};
+use device_types::TraceFlag;
 use hmac_core::Digest32;
 use outside_edge::{Failed, Sink};
 use report_text::{print_denied, print_end, print_report, print_reset, print_sent};

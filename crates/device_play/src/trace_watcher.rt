@@ -1,8 +1,8 @@
 use crate::put_fault::PutFault;
 use crate::traced_line::last_trace_line;
 use crate::watcher::Watcher;
-use bus_signals::TraceFlag;
 use device_core::Live;
+use device_types::TraceFlag;
 use hmac_core::Digest32;
 use outside_edge::{Failed, Sink};
 use trace_files::print_line;

@@ -4,8 +4,8 @@ ghost use Rattle.device_core.specs.Device.{HasStepped, OfLive};
 ghost use Rattle.trace_files.specs.{LineReadBack.IsPrintable, TraceText.last_line};
 ghost use Rattle.device_play.specs.{TraceLine.{proposal_shown, value_shown, word_read}, Watching.PlaysSome};
 
-use bus_signals::{Access, TraceFlag};
 use device_core::{Live, blank_access, blank_value};
+use device_types::{Access, TraceFlag};
 use hmac_core::Digest32;
 use trace_files::TraceLine;
 

@@ -1,8 +1,8 @@
 ghost use Rattle.device_core.specs.Device.{HasStepped, OfLive};
 
 use crate::put_fault::PutFault;
-use bus_signals::TraceFlag;
 use device_core::Live;
+use device_types::TraceFlag;
 use hmac_core::Digest32;
 use outside_edge::{Failed, Sink};
 
@@ -10,7 +10,7 @@ use outside_edge::{Failed, Sink};
 /// play goes on from what it says of the steps before.
 pub trait Watcher {
     ghost use Rattle.std.specs.Prelude.{◌≡◌, ◌<◌, ◌^◌, [], Bool, true, List, IfOk};
-    ghost use Rattle.bus_signals.specs.declared.event.Event.{Event};
+    ghost use Rattle.device_types.specs.declared.event.Event.{Event};
     ghost use Rattle.outside_edge.specs.Sink.{Puts, CountsFaults};
     ghost use Rattle.part_definitions.specs.Hmac.{Digest};
     ghost use Rattle.device_trace.specs.{Play.Play, Start.Start};

@@ -5,9 +5,9 @@ ghost use Rattle.trace_files.specs.WaveSamples.{byte_received, byte_received_in,
 ghost use Rattle.device_play.specs.Watching.{PlaysSome};
 
 use crate::traced_line::last_trace_line;
-use bus_signals::{Access, BusRecord, TraceFlag};
 use device_core::Live;
 use device_peripherals::{byte_sent, takes_byte};
+use device_types::{Access, BusRecord, TraceFlag};
 use hmac_core::Digest32;
 use trace_files::{Ports, Sample, State};
 use word_arith::Size;

@@ -1,8 +1,8 @@
 use crate::put_fault::PutFault;
 use crate::watcher::Watcher;
 use crate::wave_sample::last_wave_sample;
-use bus_signals::TraceFlag;
 use device_core::Live;
+use device_types::TraceFlag;
 use hmac_core::Digest32;
 use outside_edge::{Failed, Sink};
 use trace_files::Wave;

@@ -1,7 +1,7 @@
 -- Images and plays that the definitions are tried against.
 use Rattle.std.specs.Prelude.{◌&&◌, ◌++◌, ◌+◌, ◌-◌, ◌*◌, ℕ, zero, suc, List, [], ◌∷◌, length, map, if◌then◌else◌, nat_le, nat_lt, slice_index}
 use Rattle.word_arith.specs.Word16.{Word16}
-use Rattle.bus_signals.specs.{declared.event.Event.{Event, TheVariants.Rx}, Map.COUNTER, SeenRecord.no_flag, Address.{Contents, Bytes, Address}}
+use Rattle.device_types.specs.{declared.event.Event.{Event, TheVariants.Rx}, Map.COUNTER, SeenRecord.no_flag, Address.{Contents, Bytes, Address}}
 use Rattle.part_definitions.specs.Attestation.{bytes_of_words}
 use Rattle.device_trace.specs.{Start.{Start, with_key}, Play.Play}
 

@@ -1,6 +1,6 @@
 -- Plays: what a run is of.
 use Rattle.std.specs.Prelude.{List}
-use Rattle.bus_signals.specs.declared.event.Event.{Event}
+use Rattle.device_types.specs.declared.event.Event.{Event}
 
 -- the events of each step, the newest step first
 abbrev pub Play : Type 0

@@ -2,7 +2,7 @@
 -- leads to.
 use Rattle.std.specs.Prelude.{◌==◌, ◌++◌, ℕ, Bool, true, false, List, [], ◌∷◌, Option, Some, None, is_some, if◌then◌else◌}
 use Rattle.word_arith.specs.{declared.size.Size.TheVariants.Word, Word16.Word16}
-use Rattle.bus_signals.specs.{declared.{access.Access.Access, kind.Kind.{Kind, TheVariants.{Boot, Cpu, Idle, Irq, Rom}}}, Map.{ROM_ENTRY, RESET_VECTOR}, Address.Address}
+use Rattle.device_types.specs.{declared.{access.Access.Access, kind.Kind.{Kind, TheVariants.{Boot, Cpu, Idle, Irq, Rom}}}, Map.{ROM_ENTRY, RESET_VECTOR}, Address.Address}
 use Rattle.part_definitions.specs.{BusAccess.read_at, Attestation.{call_item, item_access, item_pc, bounds_read, is_return, word_passed}, CpuRegister.{Registers, clear_registers, pc_of, sp_of, with_pc, after_pop, is_asleep}, CpuState.{CpuState, Boundary, Executing, Entering, registers_of, cpu_pc, cpu_access, cpu_after, entry_begun, is_at_boundary}, MonitorRule.in_rom}
 use Rattle.device_trace.specs.Start.{Start}
 

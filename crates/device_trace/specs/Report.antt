@@ -1,6 +1,6 @@
 -- The reports of a play.
 use Rattle.std.specs.Prelude.{◌≡◌, Some, IsTrue}
-use Rattle.bus_signals.specs.Report.{ReportFields}
+use Rattle.device_types.specs.Report.{ReportFields}
 use Rattle.device_trace.specs.{Moment.EachMoment, Start.Start, Text.last_report, Trace.trace, RegionRun.{TrustedRun, WholeRun}, Play.Play}
 
 -- this holds of every report that a play makes, and of the play up to it

@@ -2,7 +2,7 @@
 -- calls write.
 use Rattle.std.specs.Prelude.{ℕ, Bool, List, slice_index}
 use Rattle.word_arith.specs.Word16.{Word16}
-use Rattle.bus_signals.specs.{SeenRecord.SeenHistory, Address.{Contents, Bytes}}
+use Rattle.device_types.specs.{SeenRecord.SeenHistory, Address.{Contents, Bytes}}
 use Rattle.part_definitions.specs.{Attestation.{CallItem, DecisionWrite, MacWrite, written_word}, Memory.PowerOn, Hmac.Digest}
 
 pub record Start : Type 0 where

@@ -1,7 +1,7 @@
 -- The trace of a play: the list of the records of its steps, newest first.
 use Rattle.std.specs.Prelude.{ℕ, Bool, zero, suc, List, [], ◌∷◌, Option, Some, None}
 use Rattle.word_arith.specs.Word16.{Word16}
-use Rattle.bus_signals.specs.{declared.{bus_record.BusRecord.BusRecord, event.Event.Event, signals.Signals.Signals, bounds.Bounds.Bounds}, SeenRecord.SeenHistory, Address.Contents}
+use Rattle.device_types.specs.{declared.{bus_record.BusRecord.BusRecord, event.Event.Event, signals.Signals.Signals, bounds.Bounds.Bounds}, SeenRecord.SeenHistory, Address.Contents}
 use Rattle.device_trace.specs.{Logs.{Logs, power_on_logs, logged_byte, logged_bounds, with_events, with_record}, Start.{Start, without_key}, Step.{next_record, next_signals}, Play.Play}
 
 abbrev pub next_logs : Start → Logs → List Event → Logs

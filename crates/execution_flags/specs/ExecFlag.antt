@@ -1,6 +1,6 @@
 -- The EXEC flag is a flag of a run.
 use Rattle.std.specs.Prelude.{◌≡◌, refl}
-use Rattle.bus_signals.specs.{SeenRecord.SeenHistory, ExecFlag.{exec, clears, is_set}}
+use Rattle.device_types.specs.{SeenRecord.SeenHistory, ExecFlag.{exec, clears, is_set}}
 
 pub exec-of_run : (records : SeenHistory) → exec records ≡ is_set clears records
 unfolding exec

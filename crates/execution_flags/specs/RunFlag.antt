@@ -1,7 +1,7 @@
 -- A flag of a run, and which records it stands for having seen.
 use Rattle.std.specs.Prelude.{◌≡◌, Bool}
 use Rattle.std.proofs.Common.{◌∙◌, sym}
-use Rattle.bus_signals.specs.{SeenRecord.SeenHistory, TraceFlag.Flag}
+use Rattle.device_types.specs.{SeenRecord.SeenHistory, TraceFlag.Flag}
 use Rattle.execution_flags.specs.declared.run_flag.RunFlag.{RunFlag}
 
 -- the flag is as these records, the newest first, left it

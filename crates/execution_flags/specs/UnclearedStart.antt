@@ -1,6 +1,6 @@
 -- When a flag is set, in the words of a trace.
 use Rattle.std.specs.Prelude.{◌≡◌, ◌≤◌, ◌++◌, Bool, List, ◌∷◌, Option, length, IsTrue}
-use Rattle.bus_signals.specs.{SeenRecord.{SeenHistory, SeenRecord}, Address.Address, ExecFlag.{starts_run, last_pc}}
+use Rattle.device_types.specs.{SeenRecord.{SeenHistory, SeenRecord}, Address.Address, ExecFlag.{starts_run, last_pc}}
 
 -- one of these records, the newest first: those after it, itself, and those before it
 pub record Moment (records : SeenHistory) : Type 0 where

@@ -1,10 +1,10 @@
 ghost use Rattle.std.specs.Prelude.{◌≡◌, true, false, is_none};
-ghost use Rattle.bus_signals.specs.{declared.bounds.Bounds.Bounds as SeenBounds, TraceFlag.IsRecordOf};
+ghost use Rattle.device_types.specs.{declared.bounds.Bounds.Bounds as SeenBounds, TraceFlag.IsRecordOf};
 ghost use Rattle.part_definitions.specs.TrustedFlag.{reads_vector, handler_read, enters_elsewhere, clears_f3, clears_f4, clears_f10, clears_aux};
 
 use crate::clearing::{clears_both, enters_region, has_write_to, runs_inside, writes_to};
 use crate::start::fetches_first;
-use bus_signals::{Access, Bounds, BusRecord, Kind, Region, Signals, VECTORS, even};
+use device_types::{Access, Bounds, BusRecord, Kind, Region, Signals, VECTORS, even};
 
 /// Whether a record, seen with these bounds after one with this `pc`, clears the flag. The bounds
 /// are copied, so that a caller that does not come here keeps none in memory.

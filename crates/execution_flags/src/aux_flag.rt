@@ -3,7 +3,7 @@ ghost use Rattle.part_definitions.specs.TrustedFlag.{aux, clears_aux};
 use crate::aux_clearing::{clears_aux, may_be_interrupted, may_write_vectors};
 use crate::conditions::Conditions;
 use crate::run_flag::RunFlag;
-use bus_signals::{Bounds, BusRecord, Signals};
+use device_types::{Bounds, BusRecord, Signals};
 
 /// The second flag after the records seen.
 pub type AuxFlag = RunFlag<AuxConditions>;

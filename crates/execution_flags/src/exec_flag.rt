@@ -1,10 +1,10 @@
-ghost use Rattle.bus_signals.specs.ExecFlag.{exec, clears};
+ghost use Rattle.device_types.specs.ExecFlag.{exec, clears};
 
 use crate::clearing::clears;
 use crate::conditions::Conditions;
 use crate::quiet::may_accept;
 use crate::run_flag::RunFlag;
-use bus_signals::{Bounds, BusRecord, Signals};
+use device_types::{Bounds, BusRecord, Signals};
 
 /// The EXEC flag after the records seen.
 pub type ExecFlag = RunFlag<ExecConditions>;

@@ -1,8 +1,8 @@
 ghost use Rattle.std.specs.Prelude.{◌≡◌, true, false, Option};
-ghost use Rattle.bus_signals.specs.{declared.bus_record.BusRecord.BusRecord, ExecFlag.clears_e4, TraceFlag.{IsRecordOf, is_quiet}};
+ghost use Rattle.device_types.specs.{declared.bus_record.BusRecord.BusRecord, ExecFlag.clears_e4, TraceFlag.{IsRecordOf, is_quiet}};
 
 use crate::clearing::{fetches_outside, ran_inside, writes_to};
-use bus_signals::{Bounds, META, Signals};
+use device_types::{Bounds, META, Signals};
 
 /// Whether a step that is about to do this, after a record with this `pc`, is quiet, unless it is
 /// refused: ER is neither entered nor left, the DMA has no access, and that of the processor clears

@@ -3,7 +3,7 @@ ghost use Rattle.execution_flags.specs.RunFlag.{RunFlagStandsFor, flag_of_run};
 
 use crate::conditions::Conditions;
 use crate::start::starts_run;
-use bus_signals::{Bounds, BusRecord, Signals, TraceFlag};
+use device_types::{Bounds, BusRecord, Signals, TraceFlag};
 use std::marker::PhantomData;
 
 /// A flag after the records seen, which a run sets and these conditions clear.

@@ -1,7 +1,7 @@
 ghost use Rattle.std.specs.Prelude.{◌≡◌, ◌&&◌};
-ghost use Rattle.bus_signals.specs.{Bounds.are_valid, ExecFlag.{is_opcode_fetch, fetches_first, starts_run}};
+ghost use Rattle.device_types.specs.{Bounds.are_valid, ExecFlag.{is_opcode_fetch, fetches_first, starts_run}};
 
-use bus_signals::{Access, Bounds, BusRecord, Kind, valid};
+use device_types::{Access, Bounds, BusRecord, Kind, valid};
 
 /// Whether a record starts a run: the opcode fetch at ERmin, with valid bounds.
 #[inline(always)]

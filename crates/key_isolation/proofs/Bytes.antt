@@ -3,7 +3,7 @@ use Rattle.std.proofs.Common.{◌≡◌, ℕ, ◌-◌, Bool, true, false, List, 
 use Rattle.std.specs.Prelude.{◌==◌, if◌then◌else◌}
 use Rattle.std.proofs.lemmas.Bool.{cond-true, cond-false, or_parts, eqb-true}
 use Rattle.std.proofs.lemmas.Bool.Decides.{nat_tests}
-use Rattle.bus_signals.specs.Map.{lies_in, key_region, stack_region}
+use Rattle.device_types.specs.Map.{lies_in, key_region, stack_region}
 use Rattle.part_definitions.specs.Memory.{PowerOn, ShownFlags, MemoryWrite, is_image_place, takes_write, first_byte, fixed_byte, last_written, byte_at}
 use Rattle.device_trace.specs.Blank.{is_secret}
 

@@ -4,7 +4,7 @@ use Rattle.std.specs.Prelude.{if◌then◌else◌}
 use Rattle.std.specs.Str.{bytes_eq}
 use Rattle.std.proofs.lemmas.Slice.Eq.{bytes_eq-Decides}
 use Rattle.sha2.specs.Sha256.{digest_bytes, first_words, rounds, sha256}
-use Rattle.bus_signals.specs.Address.{Bytes}
+use Rattle.device_types.specs.Address.{Bytes}
 use Rattle.part_definitions.specs.{Attestation.bytes_of_words, Hmac.{Digest, block_of, with_mask}}
 use Rattle.device_trace.specs.Example.{upwards}
 use Rattle.key_isolation.specs.AttestedPlay.{token_words}

@@ -4,7 +4,7 @@ use Rattle.std.specs.Prelude.{◌==◌, ◌&&◌, ◌||◌, slice_index, if◌th
 use Rattle.std.proofs.lemmas.Bool.{cond-true, cond-false}
 use Rattle.std.proofs.lemmas.Bool.Decides.{nat_tests}
 use Rattle.word_arith.specs.declared.size.Size.TheVariants.{Word}
-use Rattle.bus_signals.specs.{declared.{access.Access.{Access, TheVariants.{Read, Write}}, bounds.Bounds.Bounds}, Access.some_reads, Map.{lies_in, touches, some_touches, mac_region, key_region, stack_region, peripheral_region, ROM_EXIT}}
+use Rattle.device_types.specs.{declared.{access.Access.{Access, TheVariants.{Read, Write}}, bounds.Bounds.Bounds}, Access.some_reads, Map.{lies_in, touches, some_touches, mac_region, key_region, stack_region, peripheral_region, ROM_EXIT}}
 use Rattle.part_definitions.specs.Attestation.{CallItem, KeyRead, MetadataRead, KeptRead, KeptWrite, DecisionWrite, DerivedKeyWrite, RegionRead, InnerDigestWrite, MacWrite, ReturnRead, region_words, item_access, item_pc, word_passed}
 use Rattle.device_trace.specs.{Blank.{touches_secrets, blank_access, blank_value}, Logs.{Logs, flags_of, logged_byte, with_released_word}, Signals.value_read, Start.{Start, mac_word}}
 use Rattle.key_isolation.proofs.{Bytes.{key_byte-hide, stack_byte-hide, zero_either}, Numbers.{key_word-zero, kept_word-zero}, Hiding.{open_start, hide}, HiddenWords.{hides_word, hidden_word, key_hidden, kept_hidden, metadata_shown, rest_shown, zero_hidden}, Reading.value_read-hide}

@@ -2,7 +2,7 @@
 use Rattle.std.proofs.Common.{◌≡◌, ℕ, false, List, Option, Some, None, IfSome, map, refl, ap, sym, ◌∙◌}
 use Rattle.std.proofs.lemmas.Bool.{cond-false, or_from}
 use Rattle.word_arith.specs.declared.size.Size.TheVariants.{Word}
-use Rattle.bus_signals.specs.{Access.IsFormed, declared.access.Access.{Access, TheVariants.{Fetch, Read, Write}}, Map.{touches, some_touches, key_region, stack_region}}
+use Rattle.device_types.specs.{Access.IsFormed, declared.access.Access.{Access, TheVariants.{Fetch, Read, Write}}, Map.{touches, some_touches, key_region, stack_region}}
 use Rattle.part_definitions.specs.Memory.{byte_at, with_access, memory_read}
 use Rattle.device_trace.specs.{Blank.{touches_secrets, SameOutside, blank_access, blank_value}, Logs.{Logs, flags_of}, Start.Start}
 use Rattle.key_isolation.proofs.{Bytes.{hide_write, keyless, byte_at-hide, zero_either}, Hiding.{open_start, hide, flags_of-hide}, Numbers.number_at-outside, WrittenBytes.with_access-hide}

@@ -2,7 +2,7 @@
 use Rattle.std.proofs.Common.{◌≡◌, ℕ, ◌+◌, ◌*◌, ◌/◌, ◌<◌, true, false, refl, arith}
 use Rattle.std.proofs.lemmas.Bool.Decides.{nat_tests}
 use Rattle.word_arith.specs.{declared.size.Size.{Size, TheVariants.{Byte, Word}}}
-use Rattle.bus_signals.specs.{declared.access.Access.TheVariants.Read, Map.{lies_in, key_region, stack_region, ER_MIN, ER_MAX, OR_MIN, OR_MAX}}
+use Rattle.device_types.specs.{declared.access.Access.TheVariants.Read, Map.{lies_in, key_region, stack_region, ER_MIN, ER_MAX, OR_MIN, OR_MAX}}
 use Rattle.part_definitions.specs.{Memory.{number_from, number_at}, Metadata.bounds_in}
 use Rattle.device_trace.specs.Blank.{touches_secrets, is_secret, SameOutside}
 

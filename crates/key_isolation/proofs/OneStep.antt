@@ -4,7 +4,7 @@ use Rattle.std.proofs.Common.{◌≡◌, ℕ, Bool, true, false, List, [], ◌�
 use Rattle.std.specs.Prelude.{◌==◌, ◌&&◌, ◌||◌, if◌then◌else◌}
 use Rattle.std.proofs.lemmas.Bool.{cond-false}
 use Rattle.word_arith.specs.declared.size.Size.TheVariants.{Word}
-use Rattle.bus_signals.specs.{declared.{access.Access.{Access, TheVariants.{Fetch, Read, Write}}, kind.Kind.{Kind, TheVariants.Rom}}, Access.{some_writes, some_reads}, Map.{touches, some_touches, key_region, stack_region, ROM_EXIT}}
+use Rattle.device_types.specs.{declared.{access.Access.{Access, TheVariants.{Fetch, Read, Write}}, kind.Kind.{Kind, TheVariants.Rom}}, Access.{some_writes, some_reads}, Map.{touches, some_touches, key_region, stack_region, ROM_EXIT}}
 use Rattle.part_definitions.specs.{Attestation.{CallItem, KeyRead, MetadataRead, KeptRead, KeptWrite, DecisionWrite, DerivedKeyWrite, RegionRead, InnerDigestWrite, MacWrite, ReturnRead, region_words, decision_read, call_item, item_access, item_pc, is_return, bounds_read}, CpuRegister.sp_of, CpuState.{CpuState, cpu_pc}, MonitorRule.in_rom}
 use Rattle.device_trace.specs.{Blank.{touches_secrets, blank_access, blank_value}, Logs.{Logs, with_released_word, released_words_after}, Progress.{Progress, Held, Runs, InCall, next_pc_of, running_access, access_of, after_return, call_after, next_progress}, Signals.value_read, Start.{Start, mac_word}}
 use Rattle.key_isolation.proofs.{Bytes.zero_either, HiddenWords.{hides_word, hidden_word, rest_shown, hide_words, call_item-hide, hide_words-more}, Hiding.{open_start, hide_progress, hide}, Reading.value_read-hide, SignalShape.item_access-hide, CallStep.same_item}

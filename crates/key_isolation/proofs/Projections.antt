@@ -5,7 +5,7 @@ use Rattle.std.proofs.lemmas.Bool.{cond-true, cond-false, cases_Bool}
 use Rattle.std.proofs.lemmas.Bool.Decides.{nat_tests}
 use Rattle.std.proofs.Common.{inl, inr}
 use Rattle.word_arith.specs.declared.size.Size.{Size}
-use Rattle.bus_signals.specs.{declared.{access.Access.{Access, TheVariants.{Fetch, Read, Write}}, kind.Kind.{Kind, TheVariants.{Boot, Cpu, Idle, Irq, Rom}}, rule.Rule.Rule}, Map.{lies_in, touches, stack_region, mac_region}}
+use Rattle.device_types.specs.{declared.{access.Access.{Access, TheVariants.{Fetch, Read, Write}}, kind.Kind.{Kind, TheVariants.{Boot, Cpu, Idle, Irq, Rom}}, rule.Rule.Rule}, Map.{lies_in, touches, stack_region, mac_region}}
 use Rattle.part_definitions.specs.Serial.{byte_sent}
 use Rattle.device_trace.specs.{Blank.blank_access, Logs.{with_released_word, released_words_after}, Peripherals.{Peripherals, with_step}, Text.byte_sent_by}
 

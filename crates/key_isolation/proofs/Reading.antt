@@ -4,7 +4,7 @@ use Rattle.std.specs.Prelude.{◌&&◌}
 use Rattle.std.proofs.lemmas.Bool.Decides.{nat_tests}
 use Rattle.std.proofs.Common.{arith}
 use Rattle.word_arith.specs.{declared.size.Size.{Size, TheVariants.Word}}
-use Rattle.bus_signals.specs.{declared.access.Access.{Access, TheVariants.{Fetch, Read, Write}}, Map.{lies_in, touches, peripheral_region, key_region, stack_region}}
+use Rattle.device_types.specs.{declared.access.Access.{Access, TheVariants.{Fetch, Read, Write}}, Map.{lies_in, touches, peripheral_region, key_region, stack_region}}
 use Rattle.part_definitions.specs.{BusAccess.fetch_at, Memory.number_at, MonitorRule.in_rom}
 use Rattle.device_trace.specs.{Blank.touches_secrets, Logs.{Logs, logged_byte}, Peripherals.peripheral_read, Signals.{number_read, value_read, word_fetched}, Start.Start}
 use Rattle.key_isolation.proofs.{Bytes.same_if, Hiding.{open_start, hide, logged_byte-hide}, Numbers.number_at-outside}

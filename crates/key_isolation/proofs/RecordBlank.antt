@@ -1,6 +1,6 @@
 -- The record of a step without the key is the real one, blanked.
 use Rattle.std.proofs.Common.{◌≡◌, ℕ, Bool, List, ◌++◌, length, Option, Some, None, refl, ap, sym, ◌∙◌, subst}
-use Rattle.bus_signals.specs.{declared.{access.Access.{Access, TheVariants.{Fetch, Read, Write}}, kind.Kind.Kind, rule.Rule.Rule, signals.Signals.Signals}, Access.without_number, Map.{touches, stack_region}, ExecFlag.last_pc}
+use Rattle.device_types.specs.{declared.{access.Access.{Access, TheVariants.{Fetch, Read, Write}}, kind.Kind.Kind, rule.Rule.Rule, signals.Signals.Signals}, Access.without_number, Map.{touches, stack_region}, ExecFlag.last_pc}
 use Rattle.part_definitions.specs.{Dma.dma_access, FirstRule.first_rule}
 use Rattle.device_trace.specs.{Blank.{touches_secrets, blank_access, blank_value, blank_record}, Logs.{Logs, step_progress, vector_of, released_words_after}, Progress.{Progress, last_registers, next_pc_of, access_of, next_progress}, Signals.{value_read, step_kind, proposed_access, signals_at, signals_of}, Start.Start, Step.{dma_value_read, record_from, record_of}}
 use Rattle.device_trace.proofs.FormedAccess.{access_of-formed}

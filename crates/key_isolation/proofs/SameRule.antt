@@ -2,7 +2,7 @@
 -- word only where no key rule is broken.
 use Rattle.std.proofs.Common.{arith, ◌≡◌, ℕ, Bool, true, false, Option, Some, None, refl, ap, sym, ◌∙◌}
 use Rattle.std.specs.Prelude.{◌&&◌}
-use Rattle.bus_signals.specs.{declared.{access.Access.Access, rule.Rule.{Rule, TheVariants.{X0, I1}}, signals.Signals.Signals}, Access.without_number}
+use Rattle.device_types.specs.{declared.{access.Access.Access, rule.Rule.{Rule, TheVariants.{X0, I1}}, signals.Signals.Signals}, Access.without_number}
 use Rattle.std.specs.Option.{option_or}
 use Rattle.part_definitions.specs.{FirstRule.{rule_where, first_rule}, NextAccess.is_illegal, MonitorRule.{key_rule, atomicity_rule}}
 

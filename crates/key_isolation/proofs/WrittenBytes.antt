@@ -3,7 +3,7 @@ use Rattle.std.proofs.Common.{◌≡◌, ℕ, ◌+◌, ◌*◌, ◌/◌, ◌%◌
 use Rattle.std.specs.Prelude.{◌||◌, if◌then◌else◌}
 use Rattle.std.proofs.lemmas.Bool.Decides.{nat_tests}
 use Rattle.word_arith.specs.declared.size.Size.TheVariants.{Byte, Word}
-use Rattle.bus_signals.specs.{declared.{access.Access.{Access, TheVariants.{Fetch, Read, Write}}, rule.Rule.Rule}, Access.IsFormed, Map.{lies_in, touches, stack_region}}
+use Rattle.device_types.specs.{declared.{access.Access.{Access, TheVariants.{Fetch, Read, Write}}, rule.Rule.Rule}, Access.IsFormed, Map.{lies_in, touches, stack_region}}
 use Rattle.part_definitions.specs.Memory.{MemoryWrite, with_access}
 use Rattle.device_trace.specs.{Blank.blank_access, Logs.memory_after}
 use Rattle.key_isolation.proofs.Bytes.{hide_write}

@@ -3,7 +3,7 @@
 use Rattle.std.specs.Prelude.{◌++◌, List, [], ◌∷◌, codes}
 use Rattle.word_arith.specs.Word16.{Word16}
 use Rattle.sha2.specs.Sha256.{sha256}
-use Rattle.bus_signals.specs.{Address.{Bytes, Contents}, Map.COUNTER}
+use Rattle.device_types.specs.{Address.{Bytes, Contents}, Map.COUNTER}
 use Rattle.part_definitions.specs.TrustedFlag.{aux}
 use Rattle.device_trace.specs.{Example.attestation_of, Start.{Start, with_key}}
 

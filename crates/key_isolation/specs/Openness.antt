@@ -1,6 +1,6 @@
 -- What is no secret: accesses, and steps that release a word.
 use Rattle.std.specs.Prelude.{◌&&◌, Bool, Option, is_none, IsFalse}
-use Rattle.bus_signals.specs.{declared.{access.Access.Access, kind.Kind.Kind, rule.Rule.Rule}, Access.some_writes, Kind.is_rom, Map.{touches, some_touches, key_region, stack_region, mac_region}}
+use Rattle.device_types.specs.{declared.{access.Access.Access, kind.Kind.Kind, rule.Rule.Rule}, Access.some_writes, Kind.is_rom, Map.{touches, some_touches, key_region, stack_region, mac_region}}
 
 -- an access that touches neither the key nor the exclusive stack
 abbrev pub IsOpen : Access → Type 0

@@ -1,5 +1,5 @@
 ghost use Rattle.std.specs.Prelude.{◌≡◌, ◌++◌, Bool, List};
-ghost use Rattle.bus_signals.specs.{SeenRecord.SeenHistory, Address.{Contents, Bytes}};
+ghost use Rattle.device_types.specs.{SeenRecord.SeenHistory, Address.{Contents, Bytes}};
 ghost use Rattle.device_trace.specs.{Blank.blank, Start.{Start, with_key}, Trace.{open_trace, released_words, trace}, Play.Play};
 ghost use Rattle.key_isolation.specs.{Agreement.{ReleaseAlike, SameButKey}, Keyless.{LooksAlike, LooksKeyless, keyless}};
 ghost use Rattle.word_arith.specs.Word16.{Word16};

@@ -1,5 +1,5 @@
 ghost use Rattle.std.specs.Prelude.{◌≡◌, ℕ, List, Option, IfSome, IsTrue, IsFalse};
-ghost use Rattle.bus_signals.specs.{declared.{access.Access.Access, bus_record.BusRecord.BusRecord, kind.Kind.Kind, rule.Rule.Rule}};
+ghost use Rattle.device_types.specs.{declared.{access.Access.Access, bus_record.BusRecord.BusRecord, kind.Kind.Kind, rule.Rule.Rule}};
 ghost use Rattle.device_trace.specs.{Blank.{blank_record, is_secret}, Logs.released_words_after};
 ghost use Rattle.key_isolation.specs.Openness.{IsOpen, releases_word};
 ghost use Rattle.part_definitions.specs.Memory.{is_image_place};

@@ -3,7 +3,7 @@ use Rattle.std.proofs.Common.{◌≡◌, ℕ, ◌+◌, ◌<◌, ◌≤◌, true,
 use Rattle.std.specs.Prelude.{◌==◌}
 use Rattle.std.proofs.lemmas.Bool.{cond_both, cond-false, ne_eqb}
 use Rattle.std.proofs.lemmas.Bool.Decides.{nat_tests}
-use Rattle.bus_signals.specs.Map.{ROM_ENTRY, ROM_BODY, ROM_EXIT}
+use Rattle.device_types.specs.Map.{ROM_ENTRY, ROM_BODY, ROM_EXIT}
 use Rattle.part_definitions.specs.{Attestation.{CallItem, KeyRead, MetadataRead, KeptRead, KeptWrite, DecisionWrite, DerivedKeyWrite, RegionRead, InnerDigestWrite, MacWrite, ReturnRead, item_pc, is_return}, Request.ATTESTS}
 use Rattle.part_definitions.proofs.CallItems.{item_after, item_after-is}
 use Rattle.trace_facts.proofs.ItemNumbers.{IsItemAt, item_after-at}

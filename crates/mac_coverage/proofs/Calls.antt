@@ -3,7 +3,7 @@
 use Rattle.std.proofs.Common.{◌≡◌, ℕ, suc, ◌+◌, ◌<◌, ◌≤◌, true, false, List, [], ◌∷◌, ◌++◌, drop, Option, Some, None, length, refl, ap, sym, ◌∙◌, arith, subst}
 use Rattle.std.specs.Prelude.{if◌then◌else◌}
 use Rattle.std.proofs.lemmas.List.{length_push}
-use Rattle.bus_signals.specs.{declared.{access.Access.Access, bounds.Bounds.Bounds, bus_record.BusRecord.BusRecord, event.Event.Event, kind.Kind.{Kind, TheVariants.Rom}, rule.Rule.Rule}}
+use Rattle.device_types.specs.{declared.{access.Access.Access, bounds.Bounds.Bounds, bus_record.BusRecord.BusRecord, event.Event.Event, kind.Kind.{Kind, TheVariants.Rom}, rule.Rule.Rule}}
 use Rattle.part_definitions.specs.{Attestation.{CallItem, ReturnRead, bounds_read, call_item, is_return, item_access, word_passed}, CpuRegister.sp_of, Memory.{MemoryWrite, byte_at, is_flag_word, with_access}, Request.ATTESTS}
 use Rattle.device_trace.specs.{Play.Play, Logs.{Logs, flags_of, released_words_after, with_events, with_released_word}, Progress.call_access, Signals.value_read, Start.Start, Step.next_record, Trace.{byte_after, logs_after, trace}}
 use Rattle.mac_coverage.specs.{AttestedBytes.{AttestedBytes, without_flag_words}, Call.{begins_call, last_call, mac_written}, Coverage.{attested_after, call_length, kept_after}}

@@ -4,7 +4,7 @@ use Rattle.std.specs.Prelude.{◌==◌, ◌&&◌, is_none, is_some, nat_lt, if�
 use Rattle.std.proofs.lemmas.Bool.{cases_lt, cond-false, cond-true, eq-eqb, eqb-true, le-ltb, lt-ltb}
 use Rattle.std.proofs.lemmas.List.{take-append-drop}
 use Rattle.std.proofs.lemmas.List.FromFn.{take-map-range_with_len}
-use Rattle.bus_signals.specs.{declared.{bus_record.BusRecord.BusRecord, event.Event.Event, rule.Rule.Rule}}
+use Rattle.device_types.specs.{declared.{bus_record.BusRecord.BusRecord, event.Event.Event, rule.Rule.Rule}}
 use Rattle.part_definitions.specs.{Attestation.word_of_bytes, Request.ATTESTS}
 use Rattle.device_trace.specs.{Play.Play, Logs.{decision_after, call_decision, finishes_call, released_words_after}, Progress.Progress, Text.last_decision, Trace.{byte_after, trace}}
 use Rattle.mac_coverage.specs.{AttestedBytes.call_words, Call.{ends_finished, last_call}, Coverage.MacCoversCall}

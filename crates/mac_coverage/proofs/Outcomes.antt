@@ -3,7 +3,7 @@ use Rattle.std.proofs.Common.{◌≡◌, ℕ, ◌+◌, ◌≤◌, true, false, L
 use Rattle.std.specs.Prelude.{◌==◌, ◌&&◌, is_none, is_some, nat_lt, if◌then◌else◌}
 use Rattle.std.proofs.lemmas.Bool.{and_from, and_parts, and_right, cases_Bool, cases_lt, cond-false, cond-true, lt-ltb}
 use Rattle.std.proofs.lemmas.List.{length_push}
-use Rattle.bus_signals.specs.{declared.{bus_record.BusRecord.BusRecord, event.Event.Event, kind.Kind.TheVariants.Rom, rule.Rule.Rule}, Kind.is_rom, Map.{ROM_ENTRY, ROM_EXIT}}
+use Rattle.device_types.specs.{declared.{bus_record.BusRecord.BusRecord, event.Event.Event, kind.Kind.TheVariants.Rom, rule.Rule.Rule}, Kind.is_rom, Map.{ROM_ENTRY, ROM_EXIT}}
 use Rattle.part_definitions.specs.{Attestation.{CallItem, KeptWrite, bounds_read, call_item, decision_read, is_return, item_access, region_words}, CpuRegister.sp_of}
 use Rattle.part_definitions.proofs.CallItems.{first_pc, item_after}
 use Rattle.device_trace.specs.{Play.Play, Logs.{Logs, call_decision, finishes_call, progress_after, step_progress, vector_of, with_events, with_record}, Progress.{Progress, InCall, after_return}, Signals.step_kind, Text.last_decision, Trace.{logs_after, trace}}

@@ -5,7 +5,7 @@ use Rattle.std.proofs.lemmas.Bool.{cases_lt, cond-true, cond-false, le-ltb, lt-l
 use Rattle.std.proofs.lemmas.Bool.Decides.{nat_tests}
 use Rattle.std.proofs.lemmas.List.{append_assoc}
 use Rattle.word_arith.specs.declared.size.Size.TheVariants.{Word}
-use Rattle.bus_signals.specs.{declared.{access.Access.Access, bounds.Bounds.Bounds}, Map.{lies_in, mac_region}}
+use Rattle.device_types.specs.{declared.{access.Access.Access, bounds.Bounds.Bounds}, Map.{lies_in, mac_region}}
 use Rattle.part_definitions.specs.{BusAccess.{read_at, write_at}, Attestation.{CallItem, KeyRead, MetadataRead, KeptRead, KeptWrite, DecisionWrite, DerivedKeyWrite, RegionRead, InnerDigestWrite, MacWrite, ReturnRead, bounds_read, is_return, item_access, region_place, word_of_bytes, written_word, word_passed}, Memory.{MemoryWrite, PowerOn, ShownFlags, byte_at, with_access}, Metadata.{bounds_in, kept_bytes}, Region.bounded_bytes}
 use Rattle.device_trace.specs.{Logs.{Logs, logged_byte, with_released_word}, Signals.value_read}
 use Rattle.mac_coverage.specs.{AttestedBytes.{AttestedBytes, attested_bytes_in}, Coverage.kept_within}

@@ -2,7 +2,7 @@
 use Rattle.std.proofs.Common.{◌≡◌, ℕ, ◌≤◌, true, false, List, [], ◌∷◌, None, length, refl, ap, sym, ◌∙◌, subst}
 use Rattle.std.specs.Prelude.{◌==◌, Option, Some}
 use Rattle.std.proofs.lemmas.Bool.{cond-false, cond-true}
-use Rattle.bus_signals.specs.{declared.{access.Access.{Access, TheVariants.{Fetch, Read, Write}}, bus_record.BusRecord.BusRecord, event.Event.Event, kind.Kind.TheVariants.Rom}, Map.ROM_ENTRY, ExecFlag.last_pc}
+use Rattle.device_types.specs.{declared.{access.Access.{Access, TheVariants.{Fetch, Read, Write}}, bus_record.BusRecord.BusRecord, event.Event.Event, kind.Kind.TheVariants.Rom}, Map.ROM_ENTRY, ExecFlag.last_pc}
 use Rattle.part_definitions.specs.Attestation.{call_item, item_pc}
 use Rattle.device_trace.specs.{Play.Play, Logs.{step_progress, with_events, with_record}, Progress.{InCall, next_pc_of}, Signals.step_kind, Step.{asks_reset, next_record}, Trace.{byte_after, logs_after, trace}}
 use Rattle.trace_facts.proofs.ExecFlag.{logs_after-valid}

@@ -5,7 +5,7 @@ use Rattle.std.specs.List.{range_with_len}
 use Rattle.std.proofs.lemmas.Bool.{cases_lt}
 use Rattle.std.proofs.lemmas.List.{length-drop, length-take-le, get_or-take, get_or-drop, get_or_append_left, get_or_past, get_or_push, length_push}
 use Rattle.std.proofs.lemmas.List.FromFn.{map-range_with_len_more}
-use Rattle.bus_signals.specs.declared.bounds.Bounds.{Bounds}
+use Rattle.device_types.specs.declared.bounds.Bounds.{Bounds}
 use Rattle.part_definitions.specs.{Attestation.{CallItem, KeyRead, MetadataRead, KeptRead, KeptWrite, DecisionWrite, DerivedKeyWrite, RegionRead, InnerDigestWrite, MacWrite, ReturnRead, attestation_tag, bounds_read, bytes_of_words, call_item, counter_word, decision_in, decision_read, kept_read, key_read, metadata_read, region_read, region_words, tag_in, word_of_bytes}, Metadata.counter_in, Request.{ATTESTS, request_decision}}
 use Rattle.part_definitions.proofs.CallItems.{item_after}
 use Rattle.mac_coverage.specs.AttestedBytes.{AttestedBytes, counter_left, decision_of, tag_of}

@@ -1,7 +1,7 @@
 -- The last call of a history, which has the newest record first.
 use Rattle.std.specs.Prelude.{◌==◌, ◌&&◌, Bool, false, List, [], ◌∷◌, is_some, if◌then◌else◌}
 use Rattle.word_arith.specs.Word16.{Word16}
-use Rattle.bus_signals.specs.{declared.bus_record.BusRecord.BusRecord, Kind.is_rom, Map.ROM_ENTRY}
+use Rattle.device_types.specs.{declared.bus_record.BusRecord.BusRecord, Kind.is_rom, Map.ROM_ENTRY}
 use Rattle.device_trace.specs.Logs.{finishes_call, released_words_after}
 
 -- a call begins with its access at the ROM's entry

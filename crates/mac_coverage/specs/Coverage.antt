@@ -2,7 +2,7 @@
 -- the token and the counters that stand there.
 use Rattle.std.specs.Prelude.{◌≡◌, ◌<◌, ◌≤◌, ◌+◌, ◌++◌, ℕ, All, List, [], IsTrue, Some, length, take, drop, nat_lt, if◌then◌else◌}
 use Rattle.word_arith.specs.Word16.{Word16}
-use Rattle.bus_signals.specs.{Report.ReportFields, Address.{Contents, Bytes, Address}}
+use Rattle.device_types.specs.{Report.ReportFields, Address.{Contents, Bytes, Address}}
 use Rattle.part_definitions.specs.{Attestation.REQUEST_WORDS, Metadata.kept_bytes, Region.mac_bytes, Request.ATTESTS, Hmac.Digest}
 use Rattle.device_trace.specs.{Start.Start, Text.last_decision, Trace.{trace, byte_after}, Play.Play}
 use Rattle.mac_coverage.specs.{AttestedBytes.{AttestedBytes, attested_bytes_in, without_flag_words, tag_of, decision_of, call_words, counter_left}, Call.{last_call, mac_written, ends_in_call, ends_refused, ends_finished}}

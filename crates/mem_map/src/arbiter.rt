@@ -3,7 +3,7 @@ ghost use Rattle.part_definitions.specs.Memory.{PowerOn, ShownFlags, MemoryWrite
 ghost use Rattle.mem_map.specs.Memory.{MemoryStandsFor};
 
 use crate::memory::Memory;
-use bus_signals::Access;
+use device_types::Access;
 use word_arith::Size;
 
 /// Makes the write of the processor's access, where it is one, and then the access of the DMA,

@@ -1,12 +1,12 @@
 ghost use Rattle.std.specs.Prelude.{◌≡◌, ◌+◌, ◌-◌, ◌*◌, ◌/◌, ◌&&◌, ◌∷◌, [], List, IfOk, IfSome, IsSome, IsTrue, ◌↔◌, length, vec_len};
 ghost use Rattle.word_arith.specs.declared.size.Size.{Size};
-ghost use Rattle.bus_signals.specs.Address.{even};
+ghost use Rattle.device_types.specs.Address.{even};
 ghost use Rattle.part_definitions.specs.{Memory.{PowerOn, ShownFlags, MemoryWrite, no_flags, byte_at, number_at, with_number, bytes_from}, Metadata.bounds_in};
 ghost use Rattle.mem_map.specs.{Image.power_on_of, Span.is_span};
 
 use crate::image::Image;
 use crate::place::{PLACES, is_image_place, is_span, rom_byte, takes_write};
-use bus_signals::{AUX_WORD, Bounds, CR, ER_MAX, ER_MIN, EXEC_WORD, KR, OR_MAX, OR_MIN, even};
+use device_types::{AUX_WORD, Bounds, CR, ER_MAX, ER_MIN, EXEC_WORD, KR, OR_MAX, OR_MIN, even};
 use std::alloc::{AllocError, Global};
 use word_arith::Size;
 

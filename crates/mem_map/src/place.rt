@@ -2,7 +2,7 @@ ghost use Rattle.std.specs.Prelude.{◌≡◌};
 ghost use Rattle.part_definitions.specs.Memory.{is_program, is_image_place, takes_write, rom_byte};
 ghost use Rattle.mem_map.specs.Span.{is_span};
 
-use bus_signals::{AUX_WORD, EXEC_WORD, META, PROGRAM, RAM, ROM_EXIT, VECTORS, XS};
+use device_types::{AUX_WORD, EXEC_WORD, META, PROGRAM, RAM, ROM_EXIT, VECTORS, XS};
 
 /// How many places the address space has.
 pub const PLACES: usize = 0x1_0000;

@@ -1,6 +1,6 @@
 -- The items of a listing: what stands at a place of an image.
 use Rattle.std.specs.Prelude.{◌+◌, ◌*◌, ◌%◌, ◌==◌, ℕ, zero, suc, Option, Some, None, length, nat_le, if◌then◌else◌}
-use Rattle.bus_signals.specs.Map.{vector_region}
+use Rattle.device_types.specs.Map.{vector_region}
 use Rattle.msp_decode.specs.{declared.head.Head.Head, Completion.{extension_count, completion, words_of}, Head.head_of}
 use Rattle.msp_asm.specs.{declared.item.Item.{Item, TheVariants.{Byte, Word, Instruction}}}
 

@@ -9,7 +9,7 @@ use crate::scope::Scope;
 use crate::space::take_places;
 use crate::statement_bytes::{is_of_words, size_of};
 use asm_text::{Body, Statement};
-use bus_signals::PROGRAM;
+use device_types::PROGRAM;
 use mem_map::Image;
 use std::alloc::{AllocError, Global};
 use text_scan::{FaultKind, WordFault};

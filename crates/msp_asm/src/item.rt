@@ -3,7 +3,7 @@ ghost use Rattle.msp_decode.specs.{Completion.{source_words, dest_words, words_o
 ghost use Rattle.mem_map.specs.Image.{byte_in};
 ghost use Rattle.msp_asm.specs.Item.{FIRST_VECTOR, word_in, instruction_item, item_at, item_size};
 
-use bus_signals::VECTORS;
+use device_types::VECTORS;
 use mem_map::Image;
 use msp_decode::{Dest, Instr, Source, complete, decode, extensions};
 

@@ -1,6 +1,6 @@
 -- A processor that has the course of a state asks for what the state asks for, and goes with it.
 use Rattle.std.proofs.Common.{◌≡◌, ◌++◌, ℕ, false, List, [], ◌∷◌, Some, refl, sym, ap, ◌∙◌, append_assoc}
-use Rattle.bus_signals.specs.declared.access.Access.{Access}
+use Rattle.device_types.specs.declared.access.Access.{Access}
 use Rattle.part_definitions.specs.{NextAccess.{Next, Asks, Completes, next_access, entry_access}, CpuState.{CpuState, Boundary, Executing, Entering, registers_of, is_at_boundary, is_entering, cpu_next, ask_of, cpu_access, with_value, completion_or, cpu_after, cpu_takes}}
 use Rattle.msp_exec.specs.{declared.{phase.Phase.{Phase, TheVariants.{Boundary as AtBoundary, Executing as InInstruction, Entering as InEntry}}, cpu.Cpu.Cpu}, Course.{is_boundary, is_entry, takes_value, cpu_course, state_course, CpuStandsFor, GoesOnAs, Follows}}
 

@@ -1,6 +1,6 @@
 -- Which states a processor stands for: those with the same course from here on.
 use Rattle.std.specs.Prelude.{◌≡◌, ◌++◌, ℕ, Bool, true, false, not, List, [], ◌∷◌}
-use Rattle.bus_signals.specs.declared.access.Access.{Access}
+use Rattle.device_types.specs.declared.access.Access.{Access}
 use Rattle.msp_decode.specs.declared.head.Head.{Head}
 use Rattle.part_definitions.specs.{declared.{cpu_access.CpuAccess.{CpuAccess, TheVariants.WriteResult}, working_state.WorkingState.WorkingState}, BusAccess.write_at, Operand.size_of, Instruction.bus_access, NextAccess.{Next, Asks, Completes, walk, is_illegal, next_access, entry_access}, CpuState.{CpuState, Boundary, Executing, Entering, registers_of, is_at_boundary, is_entering}, CpuRegister.Registers}
 use Rattle.msp_exec.specs.{declared.{phase.{EntryAccess.{EntryAccess, TheVariants.{PushPc, PushSr, ReadVector}}, Phase.{Phase, TheVariants.{Boundary as AtBoundary, Executing as InInstruction, Entering as InEntry}}}, cpu.Cpu.Cpu}, Order.accesses_after}

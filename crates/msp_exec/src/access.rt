@@ -1,11 +1,11 @@
 ghost use Rattle.std.specs.Prelude.{◌≡◌};
-ghost use Rattle.bus_signals.specs.Access.{IsFormed};
+ghost use Rattle.device_types.specs.Access.{IsFormed};
 ghost use Rattle.part_definitions.specs.BusAccess.{fetch_at, read_at, write_at};
 ghost use Rattle.msp_exec.specs.Course.{latched_access};
 
 use crate::instruction::size_of;
 use crate::register::{lowered_sp, pc_in, sp_in};
-use bus_signals::{Access, even};
+use device_types::{Access, even};
 use msp_decode::Head;
 use part_definitions::{CpuAccess, WorkingState};
 use word_arith::Size;

@@ -1,7 +1,7 @@
 ghost use Rattle.std.specs.Prelude.{◌≡◌};
 ghost use Rattle.part_definitions.specs.{CpuRegister.{pc_of, sp_of, sr_of, word_in, operand_in, word_for, with_register, with_pc, with_sp, with_sr, after_word, after_push, after_pop, flags_in, status_with, with_flags}, Instruction.push_place, NextAccess.handler_registers};
 
-use bus_signals::even;
+use device_types::even;
 use msp_decode::Reg;
 use word_arith::{Flags, Size};
 

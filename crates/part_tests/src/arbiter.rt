@@ -1,4 +1,4 @@
-use bus_signals::Access;
+use device_types::Access;
 use mem_map::{Image, Memory, exchange};
 use std::test::Fail;
 use word_arith::Size;

@@ -1,7 +1,7 @@
 use crate::proposal::proposal;
-use bus_signals::Access::{Fetch, Read, Write};
-use bus_signals::Rule::{A1, A2, A3, A4};
-use bus_signals::{Access, Kind, Rule};
+use device_types::Access::{Fetch, Read, Write};
+use device_types::Rule::{A1, A2, A3, A4};
+use device_types::{Access, Kind, Rule};
 use vrased_monitors::AtomMonitor;
 use word_arith::Size::Word;
 

@@ -3,8 +3,8 @@ ghost use Rattle.part_definitions.specs.Dma.{DmaEvent};
 ghost use Rattle.device_peripherals.specs.Dma.{DmaStandsFor};
 
 use Act::{Clear, Control, Registers, Start, Step, Write};
-use bus_signals::{Access, BusMaster};
 use device_peripherals::Dma;
+use device_types::{Access, BusMaster};
 use word_arith::Size::{self, Byte, Word};
 
 const DCTL: u16 = 0x01E0;

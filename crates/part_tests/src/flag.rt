@@ -1,6 +1,6 @@
 use crate::proposal::proposal;
-use bus_signals::Access::{Fetch, Read, Write};
-use bus_signals::{Access, Bounds, BusRecord, Kind, Rule, TraceFlag};
+use device_types::Access::{Fetch, Read, Write};
+use device_types::{Access, Bounds, BusRecord, Kind, Rule, TraceFlag};
 use execution_flags::{ExecFlag, is_quiet};
 use word_arith::Size::{Byte, Word};
 

@@ -1,7 +1,7 @@
 use crate::proposal::proposal;
-use bus_signals::Access::{Fetch, Read, Write};
-use bus_signals::Rule::{K1, K2, K3, K4, K5, K6};
-use bus_signals::{Access, Kind, Rule};
+use device_types::Access::{Fetch, Read, Write};
+use device_types::Rule::{K1, K2, K3, K4, K5, K6};
+use device_types::{Access, Kind, Rule};
 use vrased_monitors::KeyMonitor;
 use word_arith::Size::{Byte, Word};
 

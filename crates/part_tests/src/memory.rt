@@ -1,4 +1,4 @@
-use bus_signals::Bounds;
+use device_types::Bounds;
 use mem_map::{Image, Memory};
 use std::alloc::{AllocError, Global};
 use std::test::Fail;

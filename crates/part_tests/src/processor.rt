@@ -1,4 +1,4 @@
-use bus_signals::{Access, BusMaster};
+use device_types::{Access, BusMaster};
 use msp_exec::Cpu;
 use std::process::Abort;
 use word_arith::Size;

@@ -1,4 +1,4 @@
-use bus_signals::{Access, Kind, Signals};
+use device_types::{Access, Kind, Signals};
 
 /// What a step proposes, as fakes in place of the processor, the ROM and the DMA make it up.
 pub fn proposal(

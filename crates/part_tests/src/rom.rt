@@ -1,4 +1,4 @@
-use bus_signals::{Access, BusMaster, KR, MR};
+use device_types::{Access, BusMaster, KR, MR};
 use hmac_core::{Digest32, Sha256Digest};
 use std::test::Fail;
 use swatt_rom::Rom;

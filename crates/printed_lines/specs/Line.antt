@@ -3,7 +3,7 @@
 use Rattle.std.specs.Prelude.{◌/◌, ◌%◌, ◌++◌, ℕ, Bool, true, false, List, [], ◌∷◌, Option, Some, None, codes}
 use Rattle.std.specs.Fmt.{decimal}
 use Rattle.hex.specs.Hex.{encode_lower}
-use Rattle.bus_signals.specs.{declared.{rule.Rule.Rule, version.Version.{Version, TheVariants.{One, Two}}}, Report.ReportFields, Address.{Bytes, Address}, Rule.rule_name}
+use Rattle.device_types.specs.{declared.{rule.Rule.Rule, version.Version.{Version, TheVariants.{One, Two}}}, Report.ReportFields, Address.{Bytes, Address}, Rule.rule_name}
 
 -- a word as four digits, a byte as two
 abbrev pub word_digits : ℕ → Bytes

@@ -1,6 +1,6 @@
 -- Closed plays at which the law is computed.
 use Rattle.std.specs.Prelude.{Bool, [], ◌∷◌, Option, Some, None}
-use Rattle.bus_signals.specs.{declared.event.Event.TheVariants.Rx, Report.ReportFields}
+use Rattle.device_types.specs.{declared.event.Event.TheVariants.Rx, Report.ReportFields}
 use Rattle.device_trace.specs.{Example.quiet_steps, Play.Play}
 
 -- the region is called and then attested, with no event

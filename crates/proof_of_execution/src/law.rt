@@ -1,5 +1,5 @@
 ghost use Rattle.std.specs.Prelude.{◌≡◌, ℕ, IsTrue, Some};
-ghost use Rattle.bus_signals.specs.Report.{ReportFields};
+ghost use Rattle.device_types.specs.Report.{ReportFields};
 ghost use Rattle.device_trace.specs.{Logs.{exec_of, logged_bounds}, Report.{EachReport, ExecMeansWholeRun}, Start.Start, Text.{last_denial, last_report}, Trace.{logs_after, trace}, RegionRun.WholeRun, Play.Play};
 ghost use Rattle.proof_of_execution.specs.WholeCall.{ExecAfterCallMeansWholeRun};
 

@@ -4,7 +4,7 @@ use Rattle.std.specs.Prelude.{◌^◌, codes, IsUtf8}
 use Rattle.std.specs.Fmt.{decimal, digits}
 use Rattle.std.specs.Str.Lines.{lines}
 use Rattle.std.proofs.lemmas.Str.{IsUtf8-nil, IsUtf8-append}
-use Rattle.bus_signals.specs.{Report.ReportFields, declared.rule.Rule.Rule, Rule.{rule_name, rule_names}}
+use Rattle.device_types.specs.{Report.ReportFields, declared.rule.Rule.Rule, Rule.{rule_name, rule_names}}
 use Rattle.printed_lines.specs.Line.{byte_digits, word_digits, flag_digit, with_pieces, line_of, sent_line, reset_line, report_keyword, report_line, denied_line, end_line}
 use Rattle.line_buffer.specs.LineLaw.{ArePieces}
 use Rattle.line_buffer.proofs.PieceLines.{first_line, utf8_line, plain-flag, plain-byte, plain-word}

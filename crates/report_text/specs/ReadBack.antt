@@ -1,7 +1,7 @@
 -- The line of a report is read as that report, and the line of a verdict as none.
 use Rattle.std.specs.Prelude.{◌≡◌, ◌<◌, ◌^◌, ℕ, Bool, false, List, [], ◌∷◌, length, Ok, IfSome, IsTrue}
 use Rattle.hex.specs.Hex.{IsBytes}
-use Rattle.bus_signals.specs.{declared.version.Version.{Version, TheVariants.{One, Two}}, Bounds.AreWords, Report.ReportFields}
+use Rattle.device_types.specs.{declared.version.Version.{Version, TheVariants.{One, Two}}, Bounds.AreWords, Report.ReportFields}
 use Rattle.printed_lines.specs.Line.{report_line}
 use Rattle.report_verifier.specs.declared.verdict.Verdict.{Verdict}
 use Rattle.report_text.specs.{ReportFile.{output_fits, reports_of}, VerdictLine.verdict_line}

@@ -1,6 +1,6 @@
 -- A report file: the reports of its lines, or the first fault.
 use Rattle.std.specs.Prelude.{ℕ, ◌==◌, ◌&&◌, ◌+◌, ◌-◌, Bool, not, List, [], ◌∷◌, ◌++◌, length, if◌then◌else◌, codes, Option, Some, None, Result, Ok, Err}
-use Rattle.bus_signals.specs.{declared.{bounds.Bounds.Bounds, version.Version.{Version, TheVariants.Two}}, Report.ReportFields}
+use Rattle.device_types.specs.{declared.{bounds.Bounds.Bounds, version.Version.{Version, TheVariants.Two}}, Report.ReportFields}
 use Rattle.text_scan.specs.{declared.{fault_at.FaultAt.FaultAt, fault_kind.FaultKind.{FaultKind, TheVariants.Output}}, LineFold.text_fold, Reader.◌>>=◌, Word.{words_of, keyword_of, end_of}}
 use Rattle.report_verifier.specs.Validity.{are_valid_for}
 use Rattle.report_text.specs.ReportLine.{report_line_of, report_of}

@@ -2,7 +2,7 @@ ghost use Rattle.text_scan.specs.Reader.{ReadsWordOn};
 ghost use Rattle.report_text.specs.ReportLine.{bytes_of, field_of};
 
 use crate::report_entry::{read_count, read_flag};
-use bus_signals::Rule;
+use device_types::Rule;
 use report_verifier::Verdict;
 use std::alloc::Global;
 use text_scan::{Bytes, WordFault, Words};

@@ -1,8 +1,8 @@
 ghost use Rattle.std.specs.Prelude.{◌≡◌};
-ghost use Rattle.bus_signals.specs.Report.{ReportFields, fields_of};
+ghost use Rattle.device_types.specs.Report.{ReportFields, fields_of};
 ghost use Rattle.report_text.specs.ReportFile.{output_fits, with_output};
 
-use bus_signals::{Bounds, ReportView, Version};
+use device_types::{Bounds, ReportView, Version};
 use report_verifier::valid_for;
 use std::marker::Model;
 use text_scan::{Bytes, FaultKind};

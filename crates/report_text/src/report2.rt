@@ -3,7 +3,7 @@ ghost use Rattle.report_text.specs.ReportFile.{report2_of};
 
 use crate::report::Report;
 use crate::report_entry::read_report;
-use bus_signals::Version;
+use device_types::Version;
 use std::alloc::Global;
 use text_scan::{WordFault, Words};
 

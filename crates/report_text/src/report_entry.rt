@@ -4,7 +4,7 @@ ghost use Rattle.report_text.specs.ReportLine.{count_of, flag_of, request_of, di
 
 use crate::passed_line::pass_line;
 use crate::report::Report;
-use bus_signals::{Bounds, Version};
+use device_types::{Bounds, Version};
 use std::alloc::Global;
 use text_scan::{Bytes, FaultKind, WordFault, Words};
 

@@ -1,11 +1,11 @@
 ghost use Rattle.std.specs.Prelude.{◌≡◌, ◌≤◌, ◌+◌, ◌++◌, ◌∷◌, [], length, option_map, codes};
 ghost use Rattle.hex.specs.Hex.{encode_lower};
 ghost use Rattle.outside_edge.specs.Sink.{Puts, CountsFaults};
-ghost use Rattle.bus_signals.specs.Report.{fields_of};
+ghost use Rattle.device_types.specs.Report.{fields_of};
 ghost use Rattle.printed_lines.specs.Line.{output_piece, report_keyword, version_pieces, report_head, report_line, with_pieces, line_of};
 
 use crate::printed_digits::print_digits;
-use bus_signals::{ReportView, Version};
+use device_types::{ReportView, Version};
 use line_buffer::LineBuffer;
 use outside_edge::{Failed, Sink, put_all};
 

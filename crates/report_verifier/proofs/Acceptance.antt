@@ -5,7 +5,7 @@ use Rattle.std.specs.Str.{bytes_eq}
 use Rattle.std.proofs.Math.Seq.{take-append_seam, drop-append_seam}
 use Rattle.std.proofs.lemmas.Bool.{and_parts, cases_Bool, cond-true, eqb-true, false≢true}
 use Rattle.std.proofs.lemmas.Slice.Eq.{bytes_eq-Decides}
-use Rattle.bus_signals.specs.{declared.{bounds.Bounds.Bounds, version.Version.{Version, TheVariants.{One, Two}}}, Bounds.are_valid, Report.ReportFields}
+use Rattle.device_types.specs.{declared.{bounds.Bounds.Bounds, version.Version.{Version, TheVariants.{One, Two}}}, Bounds.are_valid, Report.ReportFields}
 use Rattle.part_definitions.specs.{Hmac.hmac, Metadata.bounds_in, Region.{metadata_bytes, bounded_bytes, rest_bytes, bytes_between, challenge_bytes, output_bytes}}
 use Rattle.part_definitions.proofs.BytesFrom.{length-bytes_from}
 use Rattle.report_verifier.specs.{declared.{verdict.Verdict.TheVariants.{Accept, VersionDiffers, ChalDiffers, CountDiffers, BoundsDiffer, ExecZero, AuxZero, MacDiffers}, expect.Expect.Expect, flag_kind.FlagKind.{FlagKind, TheVariants.{Exec, Aux, Plain}}}, Acceptance.{HasFlag, IsAccepted, StandsAsExpected}, Collision.{AreBytes, Collides, GivesBytes, colliding_pair}, Comparison.{expected_key, expected_bytes, own_bytes}, Expectation.{expected_mac, expected_metadata, expected_rest, image_code, report_output}, PolicyGrammar.bounds_with, Verdict.{same_version, same_bounds, lacks_exec, lacks_aux, verdict}}

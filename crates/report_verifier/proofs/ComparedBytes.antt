@@ -3,7 +3,7 @@ use Rattle.std.proofs.Common.{◌≡◌, ◌<◌, ◌+◌, ◌-◌, ◌*◌, ◌
 use Rattle.std.specs.Prelude.{if◌then◌else◌, slice_index}
 use Rattle.std.specs.Int.{w32, to_le_bytes}
 use Rattle.std.proofs.lemmas.List.Elements.{All-append, All-cons, All-from_get_or, All-nil}
-use Rattle.bus_signals.specs.{declared.{bounds.Bounds.Bounds, version.Version.{Version, TheVariants.{One, Two}}}, Bounds.are_valid, Report.ReportFields}
+use Rattle.device_types.specs.{declared.{bounds.Bounds.Bounds, version.Version.{Version, TheVariants.{One, Two}}}, Bounds.are_valid, Report.ReportFields}
 use Rattle.part_definitions.specs.{Attestation.bytes_of_words, Hmac.{inner_digest, outer_input}, Memory.bytes_from, Metadata.bounds_in, Region.{bounded_bytes, bytes_between, metadata_bytes, output_bytes, rest_bytes}}
 use Rattle.report_verifier.specs.{declared.expect.Expect.Expect, Collision.{AreBytes, GivesBytes}, Comparison.{expected_bytes, own_bytes}, Expectation.{count_bytes, expected_metadata, expected_rest, expected_token, first_metadata, image_code, report_output, request_metadata}}
 use Rattle.mem_map.specs.Image.{image_byte}

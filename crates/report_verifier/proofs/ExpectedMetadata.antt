@@ -1,7 +1,7 @@
 -- The challenge is the beginning of the expected metadata, and how many bytes they begin with.
 use Rattle.std.proofs.Common.{◌≡◌, ◌+◌, ◌∙◌, ◌∷◌, [], ℕ, Bool, List, ap, length, length-append, take}
 use Rattle.word_arith.specs.Number.{bit_of}
-use Rattle.bus_signals.specs.Report.{ReportFields}
+use Rattle.device_types.specs.Report.{ReportFields}
 use Rattle.part_definitions.specs.Attestation.{bytes_of_words}
 use Rattle.report_verifier.specs.{declared.expect.Expect.Expect, Expectation.{first_metadata, expected_metadata}}
 use Rattle.report_verifier.proofs.Pieces.{take-first}

@@ -1,6 +1,6 @@
 -- What an accept means for a device whose memory has these bytes.
 use Rattle.std.specs.Prelude.{◌≡◌, ℕ, List, Option, Some, IsTrue}
-use Rattle.bus_signals.specs.{declared.version.Version.TheVariants.Two, Bounds.are_valid, Report.ReportFields}
+use Rattle.device_types.specs.{declared.version.Version.TheVariants.Two, Bounds.are_valid, Report.ReportFields}
 use Rattle.part_definitions.specs.{Attestation.attestation_tag, Metadata.bounds_in, Region.{metadata_bytes, challenge_bytes, rest_bytes, bytes_between, output_bytes}}
 use Rattle.report_verifier.specs.{declared.{verdict.Verdict.TheVariants.Accept, expect.Expect.Expect, flag_kind.FlagKind.{FlagKind, TheVariants.{Exec, Aux, Plain}}}, Expectation.{expected_metadata, image_code}, Validity.are_valid_for, Verdict.verdict}
 

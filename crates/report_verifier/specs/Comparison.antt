@@ -1,7 +1,7 @@
 -- What an accepted report rests on: the bytes that it is expected to be of, and those of the
 -- device, which is of version 2.
 use Rattle.std.specs.Prelude.{◌++◌, ◌+◌, ◌-◌, ◌≤◌, ℕ, List, Option, length}
-use Rattle.bus_signals.specs.{declared.bounds.Bounds.Bounds, Report.ReportFields}
+use Rattle.device_types.specs.{declared.bounds.Bounds.Bounds, Report.ReportFields}
 use Rattle.part_definitions.specs.{Hmac.hmac, Region.{metadata_bytes, rest_bytes}}
 use Rattle.report_verifier.specs.{declared.expect.Expect.Expect, Expectation.{expected_metadata, expected_rest, report_output}}
 

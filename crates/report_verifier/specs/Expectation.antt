@@ -2,7 +2,7 @@
 use Rattle.std.specs.Prelude.{◌++◌, ℕ, Bool, List, [], ◌∷◌, Option, Some, None}
 use Rattle.std.specs.Int.{w32, to_le_bytes}
 use Rattle.word_arith.specs.Number.{bit_of}
-use Rattle.bus_signals.specs.{declared.{bounds.Bounds.Bounds, version.Version.{Version, TheVariants.{One, Two}}}, Report.ReportFields}
+use Rattle.device_types.specs.{declared.{bounds.Bounds.Bounds, version.Version.{Version, TheVariants.{One, Two}}}, Report.ReportFields}
 use Rattle.part_definitions.specs.{Attestation.{bytes_of_words, attestation_tag}, Region.bytes_between, Request.request_token}
 use Rattle.mem_map.specs.Image.{image_byte}
 use Rattle.report_verifier.specs.declared.expect.Expect.{Expect}

@@ -2,7 +2,7 @@
 -- sent.
 use Rattle.std.specs.Prelude.{ℕ, List, Option, Some, None}
 use Rattle.std.specs.List.{slice_get}
-use Rattle.bus_signals.specs.{declared.{bounds.Bounds.Bounds, version.Version.Version}}
+use Rattle.device_types.specs.{declared.{bounds.Bounds.Bounds, version.Version.Version}}
 use Rattle.report_verifier.specs.{declared.{flag_kind.FlagKind.FlagKind, asked.Asked.Asked, expect.Expect.Expect}}
 
 pub record PolicyFields : Type 0 where

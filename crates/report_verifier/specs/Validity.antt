@@ -1,6 +1,6 @@
 -- Which metadata a version has, and which bounds are valid beside them.
 use Rattle.std.specs.Prelude.{◌+◌, ◌-◌, ℕ, Bool}
-use Rattle.bus_signals.specs.{declared.{bounds.Bounds.Bounds, region.Region.Region, version.Version.{Version, TheVariants.{One, Two}}}, Bounds.are_valid_beside, Map.{metadata_region, version_one_metadata}}
+use Rattle.device_types.specs.{declared.{bounds.Bounds.Bounds, region.Region.Region, version.Version.{Version, TheVariants.{One, Two}}}, Bounds.are_valid_beside, Map.{metadata_region, version_one_metadata}}
 
 -- where they lie
 abbrev pub metadata_of : Version → Region

@@ -8,7 +8,7 @@ use crate::flag_kind::FlagKind;
 use crate::policy::Policy;
 use crate::policy_line::{PolicyLine, read_kind};
 use crate::validity::valid_for;
-use bus_signals::{Bounds, Version};
+use device_types::{Bounds, Version};
 use std::alloc::Global;
 use std::mem;
 use text_scan::{FaultKind, LineReader, WordFault, Words};

@@ -1,5 +1,5 @@
 ghost use Rattle.std.specs.Prelude.{◌≡◌, ◌≤◌, ◌+◌, ◌-◌, ◌++◌, ℕ, List, option_map, IsTrue};
-ghost use Rattle.bus_signals.specs.Report.{fields_of};
+ghost use Rattle.device_types.specs.Report.{fields_of};
 ghost use Rattle.hmac_core.specs.Hmac.{HmacStandsFor};
 ghost use Rattle.mem_map.specs.Image.{byte_in, image_byte};
 ghost use Rattle.part_definitions.specs.{Hmac.hmac, Memory.bytes_from};
@@ -9,7 +9,7 @@ use crate::byte_list::ByteList;
 use crate::expect::Expect;
 use crate::image_code::push_code;
 use crate::metadata::expected_metadata;
-use bus_signals::ReportView;
+use device_types::ReportView;
 use hmac_core::{Digest32, Hmac, hmac};
 use mem_map::Image;
 

@@ -1,11 +1,11 @@
 ghost use Rattle.std.specs.Prelude.{◌≡◌, ◌++◌, [], length};
 ghost use Rattle.word_arith.specs.Number.{bit_of};
-ghost use Rattle.bus_signals.specs.Report.{fields_of};
+ghost use Rattle.device_types.specs.Report.{fields_of};
 ghost use Rattle.report_verifier.specs.{Expectation.{first_metadata, request_metadata, expected_metadata}, Validity.metadata_len};
 
 use crate::byte_list::ByteList;
 use crate::expect::Expect;
-use bus_signals::{ReportView, Version};
+use device_types::{ReportView, Version};
 use hmac_core::{Digest32, request_token};
 
 /// The most bytes that metadata have: those of version 2.

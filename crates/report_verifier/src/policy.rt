@@ -4,7 +4,7 @@ ghost use Rattle.report_verifier.specs.{Policy.expect_at, PolicyGrammar.has_requ
 use crate::asked::Asked;
 use crate::expect::Expect;
 use crate::flag_kind::FlagKind;
-use bus_signals::{Bounds, Version};
+use device_types::{Bounds, Version};
 use std::alloc::{AllocError, Global};
 use std::marker::Model;
 

@@ -4,7 +4,7 @@ ghost use Rattle.report_verifier.specs.PolicyGrammar.{version_line_of, executabl
 
 use crate::asked::Asked;
 use crate::flag_kind::FlagKind;
-use bus_signals::Version;
+use device_types::Version;
 use text_scan::{FaultKind, Words};
 
 /// What a line of a policy says.

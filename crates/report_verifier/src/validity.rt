@@ -1,7 +1,7 @@
 ghost use Rattle.std.specs.Prelude.{◌≡◌};
 ghost use Rattle.report_verifier.specs.Validity.{are_valid_for};
 
-use bus_signals::{Bounds, Version, valid, valid_one};
+use device_types::{Bounds, Version, valid, valid_one};
 
 /// Whether the bounds are valid in a version: beside its metadata.
 pub fn valid_for(version: Version, bounds: &Bounds) -> bool

@@ -2,14 +2,14 @@ ghost use Rattle.std.specs.Prelude.{◌≡◌, IsTrue, option_map};
 ghost use Rattle.std.specs.Option.{ForSome};
 ghost use Rattle.std.proofs.Common.{rules};
 ghost use Rattle.sha2.specs.Sha256.{sha256};
-ghost use Rattle.bus_signals.specs.Report.{fields_of};
+ghost use Rattle.device_types.specs.Report.{fields_of};
 ghost use Rattle.mem_map.specs.Image.{byte_in};
 ghost use Rattle.report_verifier.specs.{Validity.are_valid_for, VerdictName.verdict_names, Verdict.{lacks_exec, lacks_aux, verdict_on, verdict}};
 
 use crate::expect::Expect;
 use crate::expected_mac::expected_mac;
 use crate::flag_kind::FlagKind;
-use bus_signals::ReportView;
+use device_types::ReportView;
 use hmac_core::{Digest32, Sha256Digest, same_bytes};
 use mem_map::Image;
 use named_value::Named;

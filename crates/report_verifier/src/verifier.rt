@@ -2,7 +2,7 @@ ghost use Rattle.std.specs.Prelude.{◌≡◌};
 
 use crate::policy::Policy;
 use crate::verdict::{Verdict, verdict_by};
-use bus_signals::ReportView;
+use device_types::ReportView;
 use hmac_core::Digest32;
 use mem_map::Image;
 
@@ -15,7 +15,7 @@ pub struct Verifier<'a> {
 }
 
 impl Verifier<'_> {
-    ghost use Rattle.bus_signals.specs.Report.{fields_of};
+    ghost use Rattle.device_types.specs.Report.{fields_of};
     ghost use Rattle.report_verifier.specs.Judge.{verdict_at, judge_of};
 
     /// The verdict on a report, numbered from 0: it is expected to answer the request of its

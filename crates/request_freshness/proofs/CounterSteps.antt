@@ -1,7 +1,7 @@
 -- What a step does to the kept counter.
 use Rattle.std.proofs.Common.{◌≡◌, ℕ, ◌+◌, ◌*◌, ◌<◌, ◌≤◌, List, ◌∷◌, ◌++◌, take, drop, ◌⊎◌, inl, inr, ap, arith}
 use Rattle.std.specs.Prelude.{slice_index}
-use Rattle.bus_signals.specs.declared.event.Event.{Event}
+use Rattle.device_types.specs.declared.event.Event.{Event}
 use Rattle.part_definitions.specs.Metadata.{little_endian}
 use Rattle.device_trace.specs.{Play.Play, Trace.trace}
 use Rattle.mac_coverage.specs.Coverage.{call_length}

@@ -3,7 +3,7 @@ use Rattle.std.proofs.Common.{◌≡◌, ℕ, ◌<◌, ◌≤◌, Bool, true, fa
 use Rattle.std.specs.Prelude.{◌==◌, ◌&&◌, is_none, IsFalse}
 use Rattle.std.proofs.lemmas.Bool.{cases_lt, cond-true, eq-eqb}
 use Rattle.std.proofs.lemmas.List.{drop-append-le}
-use Rattle.bus_signals.specs.{declared.{access.Access.{Access, TheVariants.{Fetch, Read, Write}}, bus_record.BusRecord.BusRecord, rule.Rule.Rule}, SeenRecord.SeenHistory, Address.{Bytes, Contents}}
+use Rattle.device_types.specs.{declared.{access.Access.{Access, TheVariants.{Fetch, Read, Write}}, bus_record.BusRecord.BusRecord, rule.Rule.Rule}, SeenRecord.SeenHistory, Address.{Bytes, Contents}}
 use Rattle.part_definitions.specs.{Metadata.{counter_in, little_endian}, Request.ATTESTS, Hmac.Digest}
 use Rattle.device_trace.specs.{Play.Play, Start.{Start, with_key}, Trace.trace}
 use Rattle.mac_coverage.specs.{AttestedBytes.{AttestedBytes, decision_of}, Call.{last_call, mac_written}, Coverage.{IsDeviceKey, IsOfBytes, before_call, call_length}}

@@ -3,7 +3,7 @@ use Rattle.std.proofs.Common.{◌≡◌, ℕ, suc, ◌+◌, ◌-◌, ◌<◌, �
 use Rattle.std.specs.Str.{bytes_eq}
 use Rattle.std.specs.Prelude.{◌==◌, is_some, nat_le, IsTrue, if◌then◌else◌}
 use Rattle.std.proofs.lemmas.Bool.{and_from, cases_Bool, cases_lt, cond-false, cond-true, eqb-true, leb-false}
-use Rattle.bus_signals.specs.{declared.{bus_record.BusRecord.BusRecord, event.Event.Event, kind.Kind.TheVariants.Rom}, Kind.is_rom, Map.ROM_ENTRY, Address.Bytes}
+use Rattle.device_types.specs.{declared.{bus_record.BusRecord.BusRecord, event.Event.Event, kind.Kind.TheVariants.Rom}, Kind.is_rom, Map.ROM_ENTRY, Address.Bytes}
 use Rattle.part_definitions.specs.{Metadata.{counter_in, little_endian, token_in}, Request.{ATTESTS, request_decision, right_token}, Hmac.Digest}
 use Rattle.part_definitions.proofs.CallItems.{first_pc}
 use Rattle.device_trace.specs.{Play.Play, Logs.{Logs, step_progress, vector_of, with_events}, Progress.InCall, Signals.step_kind, Step.{asks_reset, next_record}, Trace.{logs_after, trace}}

@@ -2,7 +2,7 @@
 use Rattle.std.proofs.Common.{◌≡◌, ℕ, suc, ◌≤◌, Bool, true, false, List, [], ◌∷◌, ◌++◌, append-nil, inl, inr, Option, Some, length, ap, sym, ◌∙◌, arith, subst}
 use Rattle.std.specs.Prelude.{◌==◌, ◌&&◌, is_none, is_some, if◌then◌else◌}
 use Rattle.std.proofs.lemmas.Bool.{and_parts, cond-true}
-use Rattle.bus_signals.specs.{declared.{bus_record.BusRecord.BusRecord, event.Event.Event, kind.Kind.TheVariants.Rom, rule.Rule.Rule}, Kind.is_rom, Map.ROM_EXIT, Report.ReportFields, SeenRecord.SeenHistory, Address.{Bytes, Contents}}
+use Rattle.device_types.specs.{declared.{bus_record.BusRecord.BusRecord, event.Event.Event, kind.Kind.TheVariants.Rom, rule.Rule.Rule}, Kind.is_rom, Map.ROM_EXIT, Report.ReportFields, SeenRecord.SeenHistory, Address.{Bytes, Contents}}
 use Rattle.part_definitions.specs.{Attestation.{call_item, is_return, word_passed}, Hmac.Digest}
 use Rattle.device_trace.specs.{Play.Play, Logs.{Logs, finishes_call, step_progress, vector_of, with_events}, Progress.{InCall, after_return, call_after}, Signals.step_kind, Start.with_key, Text.last_report, Trace.{logs_after, trace}, Step.{asks_reset, next_record}}
 use Rattle.trace_facts.proofs.Choices.{none_there}

@@ -4,7 +4,7 @@ use Rattle.std.specs.Prelude.{◌==◌, ◌&&◌, ◌||◌, is_some}
 use Rattle.std.proofs.lemmas.Bool.{cond-true}
 use Rattle.std.proofs.lemmas.Bool.Decides.{nat_tests}
 use Rattle.word_arith.specs.declared.size.Size.TheVariants.{Byte, Word}
-use Rattle.bus_signals.specs.{declared.{access.Access.{Access, TheVariants.{Fetch, Read, Write}}, bus_record.BusRecord.BusRecord, kind.Kind.Kind, rule.Rule.Rule, signals.Signals.Signals}, Kind.is_rom, Map.{lies_in, some_touches, stack_region}, ExecFlag.last_pc}
+use Rattle.device_types.specs.{declared.{access.Access.{Access, TheVariants.{Fetch, Read, Write}}, bus_record.BusRecord.BusRecord, kind.Kind.Kind, rule.Rule.Rule, signals.Signals.Signals}, Kind.is_rom, Map.{lies_in, some_touches, stack_region}, ExecFlag.last_pc}
 use Rattle.part_definitions.specs.{CpuState.cpu_pc, FirstRule.first_rule, Memory.{MemoryWrite, first_byte, last_written, takes_write, with_access}, Metadata.kept_bytes, MonitorRule.in_rom}
 use Rattle.device_trace.specs.{Logs.{Logs, logged_byte, memory_after, step_progress, with_record}, Progress.{Progress, Held, Runs, InCall, access_of, last_registers, next_pc_of}, Signals.{signals_at, signals_of, step_kind, value_read}, Start.Start, Step.{dma_value_read, record_from, record_of}}
 use Rattle.trace_facts.proofs.{BreaksNoRule.{BreaksNoRule, first_rule-none}, Choices.first_false, MissedPlace.{MissesPlace, last_written-missed}, Sound.IsWithin, SoundPlay.{LogsAreSound, within_unrefused}}

@@ -1,5 +1,5 @@
 ghost use Rattle.std.specs.Prelude.{◌≡◌, ◌++◌, ◌<◌, ◌≤◌, ◌∷◌, ℕ, Bool, IsFalse, List};
-ghost use Rattle.bus_signals.specs.{SeenRecord.SeenHistory, declared.event.Event.Event, Address.{Contents, Bytes}};
+ghost use Rattle.device_types.specs.{SeenRecord.SeenHistory, declared.event.Event.Event, Address.{Contents, Bytes}};
 ghost use Rattle.device_trace.specs.{Report.EachReport, Start.with_key, Trace.trace, Play.Play};
 ghost use Rattle.mac_coverage.specs.Coverage.{IsDeviceKey, IsOfBytes};
 ghost use Rattle.request_freshness.specs.Freshness.{Attests, BeganAfter, IsRightlyRequested, TellsNewCounter, WasUnderWay, ends_between_words, kept_counter};

@@ -2,7 +2,7 @@
 use Rattle.std.proofs.Common.{◌≡◌, ◌≤◌, ℕ, false, List, Result, Ok, Err, IfOk, refl, arith, ⊎_elim}
 use Rattle.std.specs.Prelude.{nat_lt}
 use Rattle.std.proofs.lemmas.Bool.{cases_Bool}
-use Rattle.bus_signals.specs.declared.event.Event.{Event}
+use Rattle.device_types.specs.declared.event.Event.{Event}
 use Rattle.play_script.specs.Grammar.{ScriptSoFar, with_entry}
 use Rattle.text_scan.specs.{Reader.◌>>=◌, declared.fault_kind.FaultKind.FaultKind}
 use Rattle.device_trace.specs.Trace.{play_of}

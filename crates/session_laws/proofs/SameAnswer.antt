@@ -1,7 +1,7 @@
 -- What is answered in two views that are the same up to behind where the session stands then.
 use Rattle.std.proofs.Common.{◌≡◌, ◌≤◌, ◌-◌, ◌++◌, ℕ, List, [], ◌∷◌, Option, Some, min, refl, ap, sym, ◌∙◌, arith}
 use Rattle.std.specs.Prelude.{codes}
-use Rattle.bus_signals.specs.declared.rule.Rule.{Rule}
+use Rattle.device_types.specs.declared.rule.Rule.{Rule}
 use Rattle.printed_lines.specs.Line.{reset_line}
 use Rattle.debug_link.specs.{Console.console, declared.connection.Connection.TheVariants.Open}
 use Rattle.debug_session.specs.{declared.{stop.Stop.{Stop, TheVariants.Refused}, command.{Command.{Command, TheVariants.{Registers, Memory, Go, Monitor}}, Going.Going, Way.{Way, TheVariants.{Ahead, Back}}}, request.Request.{Request, TheVariants.{Flags, Play as PlayText, Trace}}}, Command.command_of, Request.most_steps, Cause.{ahead, refusal}, Going.{Standing, interrupted, where_to}, Monitor.{flags_text, request_text}, Session.{Session, after_request, answer_of, goes, lines_to, reply, says, stands_at, refusal_warning}, Shown.{memory_body, registers_shown}, Sight.View}

@@ -1,7 +1,7 @@
 -- A conversation is the same without the key, and under two keys whose released words agree.
 use Rattle.std.proofs.Common.{◌≡◌, ◌++◌, ◌∙◌, ℕ, zero, suc, List, [], ◌∷◌, length, drop, refl, ap, sym, subst}
 use Rattle.std.specs.Prelude.{codes}
-use Rattle.bus_signals.specs.Address.{Bytes}
+use Rattle.device_types.specs.Address.{Bytes}
 use Rattle.source_server.specs.HeldLine.{short_line}
 use Rattle.device_trace.specs.{Play.Play, Start.Start, Trace.released_words}
 use Rattle.key_isolation.specs.{Agreement.{ReleaseAlike, SameButKey}, Keyless.keyless}

@@ -2,7 +2,7 @@
 use Rattle.std.proofs.Common.{◌≡◌, ℕ, Bool, true, false, List, [], ◌∷◌, ◌++◌, Option, Some, None, is_some, refl, ap, sym, ◌∙◌}
 use Rattle.std.specs.Prelude.{if◌then◌else◌}
 use Rattle.word_arith.specs.declared.size.Size.{Size}
-use Rattle.bus_signals.specs.{declared.{access.Access.{Access, TheVariants.{Fetch, Read, Write}}, rule.Rule.Rule}, Access.{places_of, without_number}}
+use Rattle.device_types.specs.{declared.{access.Access.{Access, TheVariants.{Fetch, Read, Write}}, rule.Rule.Rule}, Access.{places_of, without_number}}
 use Rattle.debug_session.specs.{Watched.{data_access, first_watched, hit_by, hit_where, hits_by, hits_by_access, is_of_kind, some_hit}, declared.watch.{Watch.Watch, WatchKind.WatchKind}}
 use Rattle.debug_session.specs.declared.watch.WatchKind.TheVariants as watch
 

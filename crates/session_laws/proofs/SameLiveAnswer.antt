@@ -3,7 +3,7 @@ use Rattle.std.proofs.Common.{◌≡◌, ◌≤◌, ◌<◌, ◌+◌, ◌-◌, �
 use Rattle.std.specs.Prelude.{codes, nat_lt}
 use Rattle.std.proofs.lemmas.Bool.{cases_Bool}
 use Rattle.std.proofs.lemmas.Bool.Decides.{nat_tests}
-use Rattle.bus_signals.specs.Address.{Bytes}
+use Rattle.device_types.specs.Address.{Bytes}
 use Rattle.printed_lines.specs.Line.{place_line}
 use Rattle.text_scan.specs.{Reader.◌>>=◌, Word.{is_passed_over, words_of}, declared.fault_kind.FaultKind.FaultKind}
 use Rattle.device_trace.specs.Start.{Start}

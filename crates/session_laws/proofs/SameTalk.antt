@@ -1,7 +1,7 @@
 -- So a debugger tells the same of both, and of a device the same as without its key.
 use Rattle.std.proofs.Common.{◌≡◌, ◌≤◌, ◌++◌, ℕ, zero, suc, Bool, true, false, List, [], ◌∷◌, Option, length, max, nat_lt, refl, ap, sym, subst, ◌∙◌, arith}
 use Rattle.std.specs.Prelude.{if◌then◌else◌, take}
-use Rattle.bus_signals.specs.declared.event.Event.{Event}
+use Rattle.device_types.specs.declared.event.Event.{Event}
 use Rattle.device_trace.specs.{Start.Start, Trace.{play_of, released_words}}
 use Rattle.key_isolation.specs.{Agreement.{ReleaseAlike, SameButKey}, Keyless.keyless}
 use Rattle.key_isolation.proofs.TwoKeys.{one_keyless}

@@ -6,7 +6,7 @@ use Rattle.std.proofs.Math.Nat.{min_comm, sub-add-min_cancel}
 use Rattle.std.proofs.lemmas.Bool.{cases_Bool, cond-false, cond-true, ne_eqb}
 use Rattle.hex.specs.Hex.{encode_lower}
 use Rattle.word_arith.specs.declared.size.Size.TheVariants.{Byte}
-use Rattle.bus_signals.specs.declared.event.Event.{Event}
+use Rattle.device_types.specs.declared.event.Event.{Event}
 use Rattle.device_trace.specs.{Logs.Logs, Play.Play, Signals.number_read, Start.Start, Text.{end_line_after, lines_of, play_text}, Trace.play_of}
 use Rattle.trace_files.specs.TraceText.{trace_text}
 use Rattle.debug_link.specs.{Console.console, Conversation.Answer, declared.connection.Connection.TheVariants.Open}

@@ -4,7 +4,7 @@ use Rattle.std.specs.Prelude.{◌||◌, nat_lt, if◌then◌else◌}
 use Rattle.std.proofs.Math.Nat.{min-le_left}
 use Rattle.std.proofs.lemmas.List.{append_cancel_left}
 use Rattle.word_arith.specs.declared.size.Size.TheVariants.{Byte}
-use Rattle.bus_signals.specs.{declared.{access.Access.TheVariants.Read, bus_record.BusRecord.BusRecord, event.Event.Event}, Access.without_number, Map.{AUX_WORD, EXEC_WORD, key_region, lies_in, stack_region}}
+use Rattle.device_types.specs.{declared.{access.Access.TheVariants.Read, bus_record.BusRecord.BusRecord, event.Event.Event}, Access.without_number, Map.{AUX_WORD, EXEC_WORD, key_region, lies_in, stack_region}}
 use Rattle.part_definitions.specs.Memory.{ShownFlags}
 use Rattle.printed_lines.specs.Line.{end_line}
 use Rattle.device_trace.specs.{Blank.{blank, blank_record, touches_secrets}, Logs.{Logs, aux_of, exec_of}, Play.Play, Progress.{Progress, Held, Runs, InCall, last_registers, next_pc_of, stands_at_boundary}, Signals.number_read, Start.Start, Step.next_record, Text.{lines_of, lines_of_step}, Trace.{logs_after, released_words, trace}}

@@ -1,6 +1,6 @@
 -- Two runs of which a debugger tells the same.
 use Rattle.std.specs.Prelude.{◌≡◌, ℕ, List, take}
-use Rattle.bus_signals.specs.declared.event.Event.{Event}
+use Rattle.device_types.specs.declared.event.Event.{Event}
 use Rattle.device_trace.specs.Start.{Start}
 use Rattle.debug_link.specs.Conversation.{Input, conversation}
 use Rattle.debug_session.specs.{Place.{Run, view_of}, Session.{first_session, reply}}

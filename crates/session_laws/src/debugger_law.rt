@@ -1,6 +1,6 @@
 ghost use Rattle.std.specs.Prelude.{ℕ, List};
 ghost use Rattle.word_arith.specs.Word16.{Word16};
-ghost use Rattle.bus_signals.specs.declared.event.Event.{Event};
+ghost use Rattle.device_types.specs.declared.event.Event.{Event};
 ghost use Rattle.device_trace.specs.Start.{Start};
 ghost use Rattle.key_isolation.specs.{Agreement.{ReleaseAlike, SameButKey}, Keyless.keyless};
 ghost use Rattle.debug_link.specs.Conversation.{Input};

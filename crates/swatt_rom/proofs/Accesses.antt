@@ -4,7 +4,7 @@ use Rattle.std.proofs.lemmas.Bool.{cases_Bool, lt-ltb}
 use Rattle.std.proofs.lemmas.Bool.Decides.{nat_tests}
 use Rattle.word_arith.specs.declared.size.Size.TheVariants.{Word}
 use Rattle.std.specs.Prelude.{◌==◌, ◌+◌, ◌*◌, nat_lt, slice_index}
-use Rattle.bus_signals.specs.{declared.{access.Access.Access, bounds.Bounds.Bounds}, Map.{mac_region, DERIVED_KEY, INNER_DIGEST, KEPT_COUNTER}}
+use Rattle.device_types.specs.{declared.{access.Access.Access, bounds.Bounds.Bounds}, Map.{mac_region, DERIVED_KEY, INNER_DIGEST, KEPT_COUNTER}}
 use Rattle.part_definitions.specs.{BusAccess.{read_at, write_at}, Attestation.{CallItem, KeptWrite, DecisionWrite, DerivedKeyWrite, RegionRead, InnerDigestWrite, MacWrite, call_item, item_access, item_pc, bounds_read, decision_read, region_words, region_place, written_word, word_of_bytes, is_return, word_passed}}
 use Rattle.part_definitions.proofs.CallItems.{item_until_decision}
 use Rattle.swatt_rom.specs.{RomCall.{call_access, next_word}, RequestWords.read_place, Phase.{PhaseStandsFor, HasDecided}, declared.{decided.Decided.Decided, region_words.RegionWords.RegionWords, request_words.RequestWords.RequestWords, phase.Phase.{Phase, TheVariants.{ReadsRequest, WritesHighWord, WritesLowWord, WritesDecision, WritesDerivedKey, ReadsRegion, WritesInnerDigest, WritesMac}}}}

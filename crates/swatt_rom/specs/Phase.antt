@@ -1,7 +1,7 @@
 -- After which words a call is in a phase. `hash` is the digest: its function, and the bytes that a
 -- running one has taken.
 use Rattle.std.specs.Prelude.{◌≡◌, ◌==◌, ◌++◌, ◌+◌, ◌*◌, ℕ, List, length, slice_index, if◌then◌else◌, Option, None, Some}
-use Rattle.bus_signals.specs.declared.bounds.Bounds.{Bounds}
+use Rattle.device_types.specs.declared.bounds.Bounds.{Bounds}
 use Rattle.hmac_core.specs.{Hash.Hash, Hmac.HmacStandsFor, declared.running_hmac.Hmac.Hmac}
 use Rattle.part_definitions.specs.{Attestation.{REQUEST_WORDS, DIGEST_WORDS, BEFORE_REGION, bounds_read, decision_read, region_words, metadata_read, region_read, call_key, decision_in, counter_word, inner_in, tag_in}, Hmac.Digest, Request.ATTESTS}
 use Rattle.swatt_rom.specs.{DigestWords.WritesDigest, declared.{decided.Decided.Decided, digest_words.DigestWords.DigestWords, region_words.RegionWords.RegionWords, phase.Phase.{Phase, TheVariants.{ReadsRequest, WritesHighWord, WritesLowWord, WritesDecision, WritesDerivedKey, ReadsRegion, WritesInnerDigest, WritesMac}}}}

@@ -1,6 +1,6 @@
 -- Where a call reads before it decides.
 use Rattle.std.specs.Prelude.{◌+◌, ◌-◌, ◌*◌, ℕ, nat_lt, if◌then◌else◌}
-use Rattle.bus_signals.specs.Map.{key_region, metadata_region, KEPT_COUNTER}
+use Rattle.device_types.specs.Map.{key_region, metadata_region, KEPT_COUNTER}
 use Rattle.part_definitions.specs.Attestation.{KEY_WORDS, METADATA_WORDS}
 
 -- the place of the word that it reads after so many words

@@ -1,9 +1,9 @@
 ghost use Rattle.std.specs.Prelude.{◌≡◌, ◌<◌, ◌≤◌, ◌+◌, ◌*◌, ◌%◌, ◌^◌, ◌↔◌, IsNone, IsSome};
 ghost use Rattle.word_arith.specs.declared.size.Size.TheVariants.{Word};
-ghost use Rattle.bus_signals.specs.Access.{IsFormed};
+ghost use Rattle.device_types.specs.Access.{IsFormed};
 ghost use Rattle.part_definitions.specs.{BusAccess.write_at, Attestation.word_of_bytes};
 
-use bus_signals::Access;
+use device_types::Access;
 use word_arith::Size;
 
 /// A digest whose sixteen words are written one by one; some are left.

@@ -1,6 +1,6 @@
 ghost use Rattle.std.specs.Prelude.{◌≡◌, ◌≤◌, ◌++◌, ◌∷◌, [], ℕ, List, length};
 ghost use Rattle.part_definitions.specs.{Request.ATTESTS, Part.Answers, Attestation.{BEFORE_REGION, call_item, item_pc, bounds_read, decision_read, derived_key, call_key, metadata_read}};
-ghost use Rattle.bus_signals.specs.Access.{IsFormed};
+ghost use Rattle.device_types.specs.Access.{IsFormed};
 ghost use Rattle.hmac_core.specs.Hmac.{HmacStandsFor};
 ghost use Rattle.swatt_rom.specs.RomCall.{call_access, next_word};
 
@@ -9,7 +9,7 @@ use crate::digest_words::DigestWords;
 use crate::region_words::RegionWords;
 use crate::request_words::{REQUEST_WORDS, RequestWords, key_bytes, metadata_bytes};
 use arrayvec::ArrayVec;
-use bus_signals::{
+use device_types::{
     Access, Bounds, DERIVED_KEY, INNER_DIGEST, KEPT_COUNTER, MR, ROM_BODY, ROM_ENTRY,
 };
 use hmac_core::{Digest32, Hmac, hmac};

@@ -1,9 +1,9 @@
 ghost use Rattle.std.specs.Prelude.{◌≡◌, ◌<◌, ◌≤◌, ◌+◌, ◌%◌, ◌↔◌, true, IsNone, IsSome, IfSome};
 ghost use Rattle.word_arith.specs.declared.size.Size.TheVariants.{Word};
-ghost use Rattle.bus_signals.specs.{Access.IsFormed, Bounds.are_valid};
+ghost use Rattle.device_types.specs.{Access.IsFormed, Bounds.are_valid};
 ghost use Rattle.part_definitions.specs.{BusAccess.read_at, Attestation.{words_between, region_words, region_place}};
 
-use bus_signals::{Access, Bounds, valid};
+use device_types::{Access, Bounds, valid};
 use word_arith::Size;
 
 /// The words of ER and then of OR, which are read one by one; some are left.

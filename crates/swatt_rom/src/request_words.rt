@@ -1,12 +1,12 @@
 ghost use Rattle.std.specs.Prelude.{◌≡◌, ◌==◌, ◌<◌, ◌+◌, ◌++◌, ◌∷◌, ◌↔◌, [], length, IsNone, IsSome, IfSome};
 ghost use Rattle.word_arith.specs.declared.size.Size.TheVariants.{Word};
 ghost use Rattle.arrayvec.specs.ArrayVec.{array_vec_len};
-ghost use Rattle.bus_signals.specs.Access.{IsFormed};
+ghost use Rattle.device_types.specs.Access.{IsFormed};
 ghost use Rattle.part_definitions.specs.{BusAccess.read_at, Attestation.{key_read, metadata_read, kept_read}};
 
 use crate::word_bytes::bytes_of;
 use arrayvec::ArrayVec;
-use bus_signals::{Access, KEPT_COUNTER, KR, META};
+use device_types::{Access, KEPT_COUNTER, KR, META};
 use std::mem;
 use word_arith::Size;
 

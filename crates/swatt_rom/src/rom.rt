@@ -1,12 +1,12 @@
 ghost use Rattle.std.specs.Prelude.{◌≡◌, [], IfSome};
-ghost use Rattle.bus_signals.specs.Access.{IsFormed};
+ghost use Rattle.device_types.specs.Access.{IsFormed};
 ghost use Rattle.part_definitions.specs.Part.{Answers, Becomes};
 ghost use Rattle.swatt_rom.specs.RomCall.{RomCall, NoCall, InCall, rom_access, rom_pc, call_end, after_value};
 
 use crate::call_end::CallEnd;
 use crate::phase::Phase;
 use crate::state::State;
-use bus_signals::{Access, BusMaster};
+use device_types::{Access, BusMaster};
 use hmac_core::{Digest32, Sha256Digest};
 
 /// The engine that makes the steps of a call. It gives each word of the region to a running hash as

@@ -1,11 +1,11 @@
 ghost use Rattle.std.specs.Prelude.{IfSome};
-ghost use Rattle.bus_signals.specs.Access.{IsFormed};
+ghost use Rattle.device_types.specs.Access.{IsFormed};
 ghost use Rattle.part_definitions.specs.Part.{Answers, Becomes};
 ghost use Rattle.swatt_rom.specs.RomCall.{rom_access, rom_pc, call_end, after_value};
 
 use crate::call_end::CallEnd;
 use crate::phase::Phase;
-use bus_signals::{Access, ROM_EXIT, even};
+use device_types::{Access, ROM_EXIT, even};
 use hmac_core::Digest32;
 use word_arith::Size;
 

@@ -2,7 +2,7 @@
 use Rattle.std.proofs.Common.{◌∙◌, ℕ, ◌%◌, ◌<◌, Bool, true, false, List, [], ◌∷◌, ◌++◌, Option, Some, None, IfSome, Ok, length, append-nil, ap, subst, arith}
 use Rattle.std.specs.Prelude.{◌==◌, ◌^◌, if◌then◌else◌}
 use Rattle.std.specs.Option.{option_to_list}
-use Rattle.bus_signals.specs.{declared.{access.Access.{Access, TheVariants.Write}, bus_record.BusRecord.BusRecord, rule.Rule.Rule}, Report.ReportFields, SeenRecord.SeenHistory, Address.{Bytes, Contents}}
+use Rattle.device_types.specs.{declared.{access.Access.{Access, TheVariants.Write}, bus_record.BusRecord.BusRecord, rule.Rule.Rule}, Report.ReportFields, SeenRecord.SeenHistory, Address.{Bytes, Contents}}
 use Rattle.part_definitions.specs.{Request.ATTESTS, Serial.SERIAL_SEND, PeripheralRegister.covers, Hmac.Digest}
 use Rattle.device_trace.specs.{Play.Play, Logs.{Logs, exec_of, logged_byte}, Progress.next_pc_of, Start.{Start, with_key}, Step.next_record, Text.{byte_sent_by, byte_sent_in, report_of, report_where, report_in, denial_in, some_line, step_lines, lines_of, play_text, end_line_after}, Trace.logs_after}
 use Rattle.printed_lines.specs.Line.{sent_line, reset_line, report_line, denied_line}

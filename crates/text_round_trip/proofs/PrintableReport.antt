@@ -3,7 +3,7 @@ use Rattle.std.proofs.Common.{◌≡◌, ℕ, zero, suc, ◌+◌, ◌-◌, ◌*�
 use Rattle.std.specs.Prelude.{◌^◌, if◌then◌else◌, IsTrue}
 use Rattle.std.proofs.lemmas.Bool.{eq-eqb}
 use Rattle.hex.specs.Hex.{IsBytes}
-use Rattle.bus_signals.specs.{declared.{bounds.Bounds.Bounds, version.Version.TheVariants.Two}, Bounds.{are_valid, AreWords}, Map.{metadata_region, mac_region}}
+use Rattle.device_types.specs.{declared.{bounds.Bounds.Bounds, version.Version.TheVariants.Two}, Bounds.{are_valid, AreWords}, Map.{metadata_region, mac_region}}
 use Rattle.part_definitions.specs.{Memory.bytes_from, Metadata.{bounds_in, counter_bytes, little_endian}, Region.output_bytes}
 use Rattle.part_definitions.proofs.BytesFrom.{length-bytes_from}
 use Rattle.device_trace.specs.{Logs.{Logs, logged_byte, logged_bounds}, Start.Start, Text.report_of}

@@ -1,5 +1,5 @@
 ghost use Rattle.std.specs.Prelude.{Bool};
-ghost use Rattle.bus_signals.specs.{SeenRecord.SeenHistory, Address.{Bytes, Contents}};
+ghost use Rattle.device_types.specs.{SeenRecord.SeenHistory, Address.{Bytes, Contents}};
 ghost use Rattle.part_definitions.specs.Hmac.{Digest};
 ghost use Rattle.device_trace.specs.{Play.Play, Start.with_key};
 ghost use Rattle.mac_coverage.specs.Coverage.{IsDeviceKey, IsOfBytes};

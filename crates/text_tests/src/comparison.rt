@@ -1,4 +1,4 @@
-use bus_signals::{ReportView, Version};
+use device_types::{ReportView, Version};
 use hmac_core::{Constant, Digest32, Sha256Digest};
 use mem_map::{Image, Memory};
 use report_verifier::{Exhibit, compare, read_policy};

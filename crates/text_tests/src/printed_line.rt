@@ -1,4 +1,4 @@
-use bus_signals::{Bounds, ReportView, Rule, Version};
+use device_types::{Bounds, ReportView, Rule, Version};
 use outside_edge::{Failed, MemSink};
 use report_text::{print_denied, print_end, print_report, print_reset, print_sent};
 use std::test::Fail;

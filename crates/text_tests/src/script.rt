@@ -1,4 +1,4 @@
-use bus_signals::Event;
+use device_types::Event;
 use play_script::read_script;
 use std::alloc::Global;
 use std::test::Fail;

@@ -6,7 +6,7 @@ use Rattle.std.proofs.lemmas.Bool.{or_parts}
 use Rattle.std.proofs.lemmas.Bool.Decides.{nat_tests}
 use Rattle.std.proofs.lemmas.List.Folds.{list_any-append}
 use Rattle.word_arith.specs.declared.size.Size.TheVariants.{Byte, Word}
-use Rattle.bus_signals.specs.{declared.{access.Access.{Access, TheVariants.{Fetch, Read, Write}}, bus_record.BusRecord.BusRecord, rule.Rule.Rule}, Map.{lies_in, metadata_region}, ExecFlag.{accesses_in, writes_to}}
+use Rattle.device_types.specs.{declared.{access.Access.{Access, TheVariants.{Fetch, Read, Write}}, bus_record.BusRecord.BusRecord, rule.Rule.Rule}, Map.{lies_in, metadata_region}, ExecFlag.{accesses_in, writes_to}}
 use Rattle.part_definitions.specs.Memory.{MemoryWrite, last_written, with_access}
 use Rattle.device_trace.specs.{Logs.{Logs, logged_bounds, memory_after, with_record}, Start.Start}
 use Rattle.trace_facts.proofs.MissedPlace.{MissesPlace, last_written-missed}

@@ -4,8 +4,8 @@ use Rattle.std.specs.Prelude.{nat_lt}
 use Rattle.std.proofs.lemmas.Bool.{cond_both, ltb-true, ltb-false}
 use Rattle.std.proofs.lemmas.Bool.Decides.{nat_tests}
 use Rattle.word_arith.specs.declared.size.Size.TheVariants.{Word}
-use Rattle.bus_signals.specs.{declared.{access.Access.TheVariants.Read, bounds.Bounds.Bounds}, Bounds.are_valid, Map.{lies_in, mac_region, metadata_region}}
-use Rattle.bus_signals.proofs.ValidRange.{IsValidRange, are_valid-ranges}
+use Rattle.device_types.specs.{declared.{access.Access.TheVariants.Read, bounds.Bounds.Bounds}, Bounds.are_valid, Map.{lies_in, mac_region, metadata_region}}
+use Rattle.device_types.proofs.ValidRange.{IsValidRange, are_valid-ranges}
 use Rattle.part_definitions.specs.Attestation.{CallItem, KeyRead, MetadataRead, KeptRead, KeptWrite, DecisionWrite, DerivedKeyWrite, RegionRead, InnerDigestWrite, MacWrite, ReturnRead, words_between, executable_words, region_words, region_place}
 use Rattle.device_trace.specs.Blank.{touches_secrets}
 use Rattle.part_definitions.proofs.CallItems.{item_after}

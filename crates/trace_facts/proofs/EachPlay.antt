@@ -1,7 +1,7 @@
 -- What holds after every play: of the progress, where each step that is not refused keeps it, and
 -- of the records, where the progress between two steps is sound.
 use Rattle.std.proofs.Common.{◌≡◌, ℕ, Bool, [], ◌∷◌, Option, Some, None, refl}
-use Rattle.bus_signals.specs.{declared.{access.Access.Access, kind.Kind.{Kind, TheVariants.{Boot, Cpu, Idle, Irq, Rom}}, rule.Rule.Rule}, ExecFlag.last_pc}
+use Rattle.device_types.specs.{declared.{access.Access.Access, kind.Kind.{Kind, TheVariants.{Boot, Cpu, Idle, Irq, Rom}}, rule.Rule.Rule}, ExecFlag.last_pc}
 use Rattle.part_definitions.specs.{CpuState.{CpuState, cpu_after}, FirstRule.first_rule}
 use Rattle.device_trace.specs.{Play.Play, Logs.{Logs, step_progress, progress_after, with_events, with_record}, Progress.{Progress, Held, next_pc_of, cpu_state_after, next_progress}, Signals.{step_kind, signals_at, signals_of}, Start.Start, Step.{record_of, next_record}, Trace.logs_after}
 

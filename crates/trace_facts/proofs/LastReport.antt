@@ -2,7 +2,7 @@
 use Rattle.std.proofs.Common.{◌≡◌, ℕ, [], ◌∷◌, length, Option, Some, None, ap}
 use Rattle.std.specs.Prelude.{◌==◌}
 use Rattle.std.proofs.lemmas.Bool.{eqb-true}
-use Rattle.bus_signals.specs.Report.{ReportFields}
+use Rattle.device_types.specs.Report.{ReportFields}
 use Rattle.part_definitions.specs.Request.{ATTESTS}
 use Rattle.device_trace.specs.{Play.Play, Logs.Logs, Start.Start, Text.{last_decision, last_report, report_of, report_where}, Trace.logs_after}
 use Rattle.trace_facts.proofs.Choices.{some_where}

@@ -4,7 +4,7 @@ use Rattle.std.specs.Prelude.{◌==◌, ◌&&◌, option_to_list}
 use Rattle.std.specs.List.{list_any}
 use Rattle.std.proofs.lemmas.Bool.{cond-false, or_from}
 use Rattle.word_arith.specs.declared.size.Size.TheVariants.{Byte, Word}
-use Rattle.bus_signals.specs.{declared.{access.Access.{Access, TheVariants.{Fetch, Read, Write}}, region.Region.Region}, Access.{is_write, some_writes}, Map.{touches, some_touches}, ExecFlag.writes_to}
+use Rattle.device_types.specs.{declared.{access.Access.{Access, TheVariants.{Fetch, Read, Write}}, region.Region.Region}, Access.{is_write, some_writes}, Map.{touches, some_touches}, ExecFlag.writes_to}
 use Rattle.part_definitions.specs.Memory.{MemoryWrite, last_written, with_access}
 
 -- a byte elsewhere

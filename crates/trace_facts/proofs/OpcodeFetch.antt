@@ -2,7 +2,7 @@
 -- `pc`.
 use Rattle.std.proofs.Common.{◌≡◌, ℕ, Bool, [], ◌∷◌, Option, length, refl}
 use Rattle.std.specs.Prelude.{◌&&◌}
-use Rattle.bus_signals.specs.{declared.kind.Kind.{Kind, TheVariants.{Boot, Cpu, Idle, Irq, Rom}}, Kind.is_cpu, ExecFlag.fetches_at}
+use Rattle.device_types.specs.{declared.kind.Kind.{Kind, TheVariants.{Boot, Cpu, Idle, Irq, Rom}}, Kind.is_cpu, ExecFlag.fetches_at}
 use Rattle.part_definitions.specs.CpuState.{Boundary, Executing, Entering}
 use Rattle.device_trace.specs.{Logs.{Logs, vector_of}, Progress.{Progress, Held, Runs, InCall, kind_of, next_pc_of, progress_within, access_of, fetches_opcode}, Signals.{step_kind, signals_at, signals_of}, Start.Start}
 use Rattle.trace_facts.proofs.{OwnFetch.{own_fetch, later_elsewhere}, ProperPlay.IsProperProgress}

@@ -1,7 +1,7 @@
 -- The ROM's code is run in calls alone.
 use Rattle.std.proofs.Common.{◌≡◌, Bool, true, false, sym, ◌∙◌}
 use Rattle.std.specs.Prelude.{All}
-use Rattle.bus_signals.specs.{declared.kind.Kind.{Kind, TheVariants.Rom}}
+use Rattle.device_types.specs.{declared.kind.Kind.{Kind, TheVariants.Rom}}
 use Rattle.part_definitions.specs.MonitorRule.{in_rom}
 use Rattle.device_trace.specs.{Play.Play, Logs.{Logs, step_progress}, Progress.{Progress, Held, Runs, InCall, next_pc_of}, Signals.{step_kind, signals_at}, Start.Start, Step.record_of, Trace.trace}
 use Rattle.trace_facts.specs.RomCode.{RunsRomInCall}

@@ -1,7 +1,7 @@
 -- The progress is sound after every play.
 use Rattle.std.proofs.Common.{◌≡◌, Bool, [], ◌∷◌, None}
 use Rattle.part_definitions.specs.FirstRule.{first_rule}
-use Rattle.bus_signals.specs.{ExecFlag.last_pc, declared.bus_record.BusRecord.BusRecord}
+use Rattle.device_types.specs.{ExecFlag.last_pc, declared.bus_record.BusRecord.BusRecord}
 use Rattle.device_trace.specs.{Play.Play, Logs.{Logs, vector_of, step_progress, with_events}, Signals.{step_kind, signals_at, signals_of}, Start.Start, Step.{record_of, next_record}, Trace.{logs_after, trace}}
 use Rattle.trace_facts.proofs.{Sound.{IsSound, IsWithin, progress_within-right, next_progress-sound}, BreaksNoRule.first_rule-none, EachPlay.{HoldsAfter, logs_after-kept}}
 use Rattle.std.specs.Prelude.{All}

@@ -1,5 +1,5 @@
 ghost use Rattle.std.specs.Prelude.{All, List};
-ghost use Rattle.bus_signals.specs.declared.event.Event.{Event};
+ghost use Rattle.device_types.specs.declared.event.Event.{Event};
 ghost use Rattle.device_trace.specs.{Play.Play, Start.Start, Trace.trace};
 ghost use Rattle.trace_facts.specs.{Naming.NamesNeitherA1NorK3, RomCode.RunsRomInCall};
 

@@ -2,7 +2,7 @@
 use Rattle.std.proofs.Common.{◌≡◌, ◌↔◌, ◌∙◌, ℕ, Bool, true, false, List, [], ◌∷◌, Option, Some, None, length, refl, ap, sym}
 use Rattle.std.specs.Prelude.{if◌then◌else◌}
 use Rattle.std.proofs.lemmas.Slice.Eq.{bytes_eq-Decides}
-use Rattle.bus_signals.specs.declared.rule.Rule.{Rule}
+use Rattle.device_types.specs.declared.rule.Rule.{Rule}
 use Rattle.std.specs.Prelude.{Ok}
 use Rattle.trace_files.specs.{LineText.rule_word, LineGrammar.rule_in, declared.{trace_line.TraceLine.TraceLine, offence.Offence.{Offence, TheVariants.{RuleIs, ExecIs}}}, Clean.{right_rule, right_exec, IsRight, IsClean}, Offence.{is_same_rule, is_same_flag, offence_of, or_first, first_offence, CleanHasNoOffence}}
 use Rattle.trace_files.proofs.LineReadBack.{rule_in-word}

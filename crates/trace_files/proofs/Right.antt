@@ -2,7 +2,7 @@
 use Rattle.std.proofs.Common.{◌≡◌, ℕ, Bool, List, [], ◌∷◌, Option, map, refl, ap, sym, ◌∙◌}
 use Rattle.std.specs.Prelude.{◌&&◌}
 use Rattle.std.proofs.lemmas.Bool.{and_parts}
-use Rattle.bus_signals.specs.{declared.{bounds.Bounds.Bounds, event.Event.Event, rule.Rule.Rule, signals.Signals.Signals}, Kind.is_cpu, ExecFlag.{exec, fetches_at, last_pc}}
+use Rattle.device_types.specs.{declared.{bounds.Bounds.Bounds, event.Event.Event, rule.Rule.Rule, signals.Signals.Signals}, Kind.is_cpu, ExecFlag.{exec, fetches_at, last_pc}}
 use Rattle.part_definitions.specs.FirstRule.{first_rule}
 use Rattle.device_trace.specs.{Play.Play, Blank.blank_record, Logs.{Logs, exec_of, logged_bounds, with_events}, Progress.last_registers, Signals.{value_read, signals_of}, Start.Start, Step.{asks_reset, dma_value_read, record_from, record_of, next_record}, Trace.{next_logs, logs_after}}
 use Rattle.trace_facts.proofs.{BreaksNoRule.key_rule-none, OpcodeFetch.opcode_in, ProperPlay.logs_after-proper}

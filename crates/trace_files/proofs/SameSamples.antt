@@ -3,7 +3,7 @@ use Rattle.std.proofs.Common.{◌≡◌, ℕ, List, [], ◌∷◌, ◌++◌, Opt
 use Rattle.std.specs.Prelude.{if◌then◌else◌}
 use Rattle.std.proofs.lemmas.Bool.Decides.{nat_tests}
 use Rattle.word_arith.specs.declared.size.Size.{Size}
-use Rattle.bus_signals.specs.{declared.{access.Access.{Access, TheVariants.Read}, bus_record.BusRecord.BusRecord, event.Event.Event, rule.Rule.Rule}, ExecFlag.last_pc}
+use Rattle.device_types.specs.{declared.{access.Access.{Access, TheVariants.Read}, bus_record.BusRecord.BusRecord, event.Event.Event, rule.Rule.Rule}, ExecFlag.last_pc}
 use Rattle.part_definitions.specs.{Pins.pins_word, Timer.timer_flag}
 use Rattle.device_trace.specs.{Blank.{blank_access, blank_value, touches_secrets}, Logs.Logs, Peripherals.with_all_events, Play.Play, Start.Start, Step.next_record, Trace.{next_logs, logs_after}}
 use Rattle.trace_facts.proofs.{Sound.IsSound, SoundPlay.logs_after-sound}

@@ -3,7 +3,7 @@ use Rattle.std.proofs.Common.{arith, ◌≡◌, ℕ, true, false, not, Option, S
 use Rattle.std.specs.Prelude.{◌&&◌}
 use Rattle.std.proofs.lemmas.Bool.{eqb-true, cond-false}
 use Rattle.std.proofs.lemmas.Bool.Decides.{nat_tests}
-use Rattle.bus_signals.specs.{declared.{access.Access.{Access, TheVariants.{Fetch, Read, Write}}, rule.Rule.{Rule, TheVariants.{X0, I1}}, signals.Signals.Signals}, Access.{some_writes, without_number}, Map.{touches, some_touches, key_region, stack_region}, ExecFlag.fetches_at}
+use Rattle.device_types.specs.{declared.{access.Access.{Access, TheVariants.{Fetch, Read, Write}}, rule.Rule.{Rule, TheVariants.{X0, I1}}, signals.Signals.Signals}, Access.{some_writes, without_number}, Map.{touches, some_touches, key_region, stack_region}, ExecFlag.fetches_at}
 use Rattle.std.specs.Option.{option_or}
 use Rattle.part_definitions.specs.{FirstRule.{breaks_x0, breaks_i1, rule_where, first_rule}, MonitorRule.{in_rom, key_rule, atomicity_rule}}
 use Rattle.device_trace.specs.{Blank.{touches_secrets, blank_access, blank_value}, Step.access_recorded}

@@ -2,7 +2,7 @@
 use Rattle.std.proofs.Common.{arith, ◌≡◌, ◌+◌, ◌%◌, ℕ}
 use Rattle.std.specs.Prelude.{◌&&◌, ◌||◌, ◌==◌, nat_le, nat_lt, not}
 use Rattle.std.proofs.lemmas.Bool.Decides.{nat_tests}
-use Rattle.bus_signals.specs.{Bounds.is_valid_region, Map.metadata_region}
+use Rattle.device_types.specs.{Bounds.is_valid_region, Map.metadata_region}
 
 pub meets_word : (first last place : ℕ)
     → (nat_le first last && nat_le place last && nat_le first (place + 1))

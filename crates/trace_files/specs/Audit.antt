@@ -1,6 +1,6 @@
 -- Which lines an audit stands for having seen.
 use Rattle.std.specs.Prelude.{◌≡◌, List, ◌∷◌, map, Result, Ok, Err}
-use Rattle.bus_signals.specs.ExecFlag.{last_pc}
+use Rattle.device_types.specs.ExecFlag.{last_pc}
 use Rattle.text_scan.specs.declared.fault_at.FaultAt.{FaultAt}
 use Rattle.trace_files.specs.{declared.{trace_line.TraceLine.TraceLine, audit.Audit.Audit, audited.Audited.Audited}, AuditText.audit_of_lines, Clean.{seen_in, right_exec}}
 

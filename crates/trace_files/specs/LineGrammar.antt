@@ -2,7 +2,7 @@
 use Rattle.std.specs.Prelude.{ℕ, ◌==◌, ◌%◌, Bool, true, List, take, drop, slice_index, if◌then◌else◌, Option, Some, None, Result, Ok, Err, codes}
 use Rattle.std.specs.Str.{bytes_eq}
 use Rattle.word_arith.specs.{declared.size.Size.{Size, TheVariants.{Byte, Word}}}
-use Rattle.bus_signals.specs.{declared.{access.Access.{Access, TheVariants.{Fetch, Read, Write}}, bounds.Bounds.Bounds, rule.Rule.Rule}, Kind.kind_names, Rule.rule_names}
+use Rattle.device_types.specs.{declared.{access.Access.{Access, TheVariants.{Fetch, Read, Write}}, bounds.Bounds.Bounds, rule.Rule.Rule}, Kind.kind_names, Rule.rule_names}
 use Rattle.named_value.specs.Names.{value_named}
 use Rattle.text_scan.specs.{declared.fault_kind.FaultKind.FaultKind, Hexadecimal.{hex_bytes_of, hex_word_of}, Reader.◌>>=◌, Word.{next_word, keyword_of, end_of}, WordValue.{number_of, place_of, or_word, value_of}}
 use Rattle.text_scan.specs.declared.fault_kind.FaultKind.TheVariants as faults

@@ -1,6 +1,6 @@
 -- The text of a line is read as that line.
 use Rattle.std.specs.Prelude.{◌≡◌, ◌<◌, ◌≤◌, ◌^◌, ℕ, List, [], ◌∷◌, length, codes, IfSome, Ok}
-use Rattle.bus_signals.specs.{declared.access.Access.{Access, TheVariants.{Fetch, Read, Write}}, Access.IsFormed, Bounds.AreWords}
+use Rattle.device_types.specs.{declared.access.Access.{Access, TheVariants.{Fetch, Read, Write}}, Access.IsFormed, Bounds.AreWords}
 use Rattle.printed_lines.specs.Line.{with_pieces}
 use Rattle.text_scan.specs.Word.{words_of}
 use Rattle.trace_files.specs.{declared.trace_line.TraceLine.TraceLine, LineGrammar.trace_line_of, LineText.{line_pieces, file_text}, TraceFile.trace_of}

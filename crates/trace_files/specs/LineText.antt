@@ -2,7 +2,7 @@
 use Rattle.std.specs.Prelude.{◌++◌, ℕ, List, [], ◌∷◌, length, Option, Some, None, codes}
 use Rattle.std.specs.Fmt.{decimal}
 use Rattle.word_arith.specs.declared.size.Size.TheVariants.{Byte, Word}
-use Rattle.bus_signals.specs.{declared.{access.Access.{Access, TheVariants.{Fetch, Read, Write}}, rule.Rule.Rule}, Kind.kind_name, Rule.rule_name}
+use Rattle.device_types.specs.{declared.{access.Access.{Access, TheVariants.{Fetch, Read, Write}}, rule.Rule.Rule}, Kind.kind_name, Rule.rule_name}
 use Rattle.printed_lines.specs.Line.{byte_digits, word_digits, flag_digit, line_of}
 use Rattle.trace_files.specs.declared.trace_line.TraceLine.{TraceLine}
 

@@ -1,5 +1,5 @@
 -- The region of a span.
-use Rattle.bus_signals.specs.declared.region.Region.{Region}
+use Rattle.device_types.specs.declared.region.Region.{Region}
 use Rattle.trace_files.specs.declared.span.Span.{Span}
 
 abbrev pub region_of : Span → Region

@@ -5,7 +5,7 @@ use crate::offence::Offence;
 use crate::rule::first_rule;
 use crate::run::{is_disturbed, starts_run};
 use crate::trace_line::TraceLine;
-use bus_signals::Rule;
+use device_types::Rule;
 
 /// What an audit keeps of the lines that it has seen.
 #[derive(Clone, Copy, Debug)]
@@ -19,7 +19,7 @@ impl Audit {
     ghost use Rattle.trace_files.specs.Audit.{AuditStandsFor};
 
     /// An audit that has seen no line.
-    #[tactic(auto, unfolding(bus_signals::specs::ExecFlag::exec))]
+    #[tactic(auto, unfolding(device_types::specs::ExecFlag::exec))]
     pub fn new() -> Audit
         ensures { AuditStandsFor result [] }
     {

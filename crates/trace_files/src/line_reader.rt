@@ -1,11 +1,11 @@
 ghost use Rattle.std.specs.Prelude.{◌≡◌, ◌<◌, ◌^◌, take, drop, IfOk, IfSome};
-ghost use Rattle.bus_signals.specs.Access.{IsFormed};
+ghost use Rattle.device_types.specs.Access.{IsFormed};
 ghost use Rattle.word_arith.specs.declared.size.Size.TheVariants.{Byte};
 ghost use Rattle.text_scan.specs.{Hexadecimal.hex_bytes_of, Reader.ReadsOn, Word.words_of};
 ghost use Rattle.trace_files.specs.LineGrammar.{number_of_bytes, is_even_if, fetch_in, read_in, written_in, write_in, access_by, access_in, rule_in, named_of, flag_of, bounds_of, fields_of, trace_line_of};
 
 use crate::trace_line::TraceLine;
-use bus_signals::{Access, Bounds, Rule};
+use device_types::{Access, Bounds, Rule};
 use named_value::Named;
 use text_scan::{FaultKind, Words, hex_bytes, hex_word};
 use word_arith::Size;

@@ -1,4 +1,4 @@
-use bus_signals::Rule;
+use device_types::Rule;
 
 /// How a line differs from what the rules say of it.
 #[derive(Clone, Copy, Debug, PartialEq, Eq)]

@@ -1,11 +1,11 @@
 ghost use Rattle.std.specs.Prelude.{◌≡◌, ◌≤◌, ◌+◌, ◌++◌, ◌∷◌, length, IfSome};
-ghost use Rattle.bus_signals.specs.Access.{IsFormed};
+ghost use Rattle.device_types.specs.Access.{IsFormed};
 ghost use Rattle.outside_edge.specs.Sink.{Puts, CountsFaults};
 ghost use Rattle.printed_lines.specs.Line.{word_digits};
 ghost use Rattle.trace_files.specs.LineText.{access_word, rule_word, trace_line};
 
 use crate::trace_line::TraceLine;
-use bus_signals::{Access, Rule};
+use device_types::{Access, Rule};
 use line_buffer::LineBuffer;
 use named_value::Named;
 use outside_edge::{Failed, Sink, put_all};

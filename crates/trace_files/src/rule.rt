@@ -1,11 +1,11 @@
 ghost use Rattle.std.specs.Prelude.{◌≡◌, ◌&&◌, ◌||◌, true, false};
-ghost use Rattle.bus_signals.specs.{Access.{some_writes, some_reads}, Map.{some_touches, key_region, stack_region}};
+ghost use Rattle.device_types.specs.{Access.{some_writes, some_reads}, Map.{some_touches, key_region, stack_region}};
 ghost use Rattle.part_definitions.specs.{FirstRule.{first_rule, breaks_i1}, MonitorRule.{key_rule, atomicity_rule, in_rom, was_inside, leaves_stack_and_mac}};
 ghost use Rattle.trace_files.specs.Clean.{signals_in};
 
 use crate::span::{KEY, MAC, STACK, is_rom};
 use crate::trace_line::TraceLine;
-use bus_signals::{Access, Kind, Rule};
+use device_types::{Access, Kind, Rule};
 use msp_decode::decode;
 
 /// The first rule that the step of a line breaks, after a step at this `pc`.

@@ -4,7 +4,7 @@ ghost use Rattle.trace_files.specs.WireValue.{access_data, access_letter, access
 
 use crate::sample::Sample;
 use crate::wire::Wire;
-use bus_signals::{Access, Rule};
+use device_types::{Access, Rule};
 use named_value::Named;
 use word_arith::Size;
 

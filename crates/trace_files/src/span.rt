@@ -1,8 +1,8 @@
 ghost use Rattle.std.specs.Prelude.{◌≡◌, ◌||◌, ◌%◌, ◌+◌, ◌&&◌};
-ghost use Rattle.bus_signals.specs.Map.{lies_in, some_touches, is_within};
+ghost use Rattle.device_types.specs.Map.{lies_in, some_touches, is_within};
 ghost use Rattle.part_definitions.specs.MonitorRule.{in_rom};
 
-use bus_signals::Access;
+use device_types::Access;
 use word_arith::Size;
 
 /// Addresses from a first to a last; none where the last is below the first.

@@ -1,4 +1,4 @@
-use bus_signals::{Access, Bounds, Kind, Rule};
+use device_types::{Access, Bounds, Kind, Rule};
 
 /// What a line of a trace file says of one step. The secrets are blanked: what was read of the key
 /// or the exclusive stack, and what was written to the stack, stands as 0.

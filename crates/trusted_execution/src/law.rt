@@ -1,5 +1,5 @@
 ghost use Rattle.std.specs.Prelude.{◌≡◌, ℕ, IsFalse, IsTrue, Some};
-ghost use Rattle.bus_signals.specs.{Bounds.executable_region, Report.ReportFields, ExecFlag.{last_pc, ran_inside}};
+ghost use Rattle.device_types.specs.{Bounds.executable_region, Report.ReportFields, ExecFlag.{last_pc, ran_inside}};
 ghost use Rattle.part_definitions.specs.TrustedFlag.{aux};
 ghost use Rattle.device_trace.specs.{Logs.{aux_of, logged_bounds}, Report.{EachReport, AuxMeansTrustedRun}, Start.Start, Text.{last_denial, last_report}, Trace.{logs_after, trace}, RegionRun.TrustedRun, Play.Play};
 ghost use Rattle.trusted_execution.specs.{SeenFlag.aux_seen, TrustedCall.AuxAfterCallMeansTrustedRun};

@@ -1,6 +1,6 @@
 -- What a desk answers to one device, from that device's lines alone.
 use Rattle.std.specs.Prelude.{ℕ, ◌==◌, ◌&&◌, ◌+◌, Bool, List, [], ◌∷◌, if◌then◌else◌, Option, option_map, Result, Ok, Err}
-use Rattle.bus_signals.specs.Report.{ReportFields}
+use Rattle.device_types.specs.Report.{ReportFields}
 use Rattle.part_definitions.specs.Hmac.{hmac}
 use Rattle.text_scan.specs.{declared.fault_kind.FaultKind.{FaultKind, TheVariants.Extra}}
 use Rattle.report_text.specs.ReportFile.{report2_of}

@@ -3,7 +3,7 @@ use Rattle.std.specs.Prelude.{◌≡◌, ◌<◌, ◌≤◌, ℕ, Bool, true, fa
 use Rattle.std.specs.List.{filter}
 use Rattle.std.specs.Prelude.{All}
 use Rattle.std.specs.Str.{bytes_eq}
-use Rattle.bus_signals.specs.Report.{ReportFields}
+use Rattle.device_types.specs.Report.{ReportFields}
 use Rattle.text_scan.specs.declared.fault_kind.FaultKind.{FaultKind}
 use Rattle.report_text.specs.ReportFile.{report2_of}
 use Rattle.report_verifier.specs.{declared.verdict.Verdict.TheVariants.Accept, Judge.Judge}

@@ -1,7 +1,9 @@
 ghost use Rattle.std.specs.Prelude.{◌≡◌, true, false};
 ghost use Rattle.part_definitions.specs.MonitorRule.{in_rom, was_inside, atomicity_rule, breaks_a1, breaks_a2, breaks_a3, breaks_a4};
 
-use bus_signals::{CR, KR, Kind, ROM_ENTRY, ROM_EXIT, Rule, Signals, XS, some_reads, some_touches};
+use device_types::{
+    CR, KR, Kind, ROM_ENTRY, ROM_EXIT, Rule, Signals, XS, some_reads, some_touches,
+};
 
 /// The rules on the ROM's atomicity (A). They look at one step and at the `pc` of the record before
 /// it, so the monitor keeps nothing.

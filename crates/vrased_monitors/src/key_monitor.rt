@@ -1,8 +1,8 @@
 ghost use Rattle.std.specs.Prelude.{◌≡◌, ◌+◌, true};
-ghost use Rattle.bus_signals.specs.Map.{key_region, stack_region, some_touches};
+ghost use Rattle.device_types.specs.Map.{key_region, stack_region, some_touches};
 ghost use Rattle.part_definitions.specs.MonitorRule.{in_rom, is_written_by_rom, leaves_stack_and_mac, key_rule, breaks_k1, breaks_k2, breaks_k3, breaks_k4, breaks_k5, breaks_k6};
 
-use bus_signals::{Access, CR, KR, MR, Region, Rule, Signals, XS, some_touches, some_writes};
+use device_types::{Access, CR, KR, MR, Region, Rule, Signals, XS, some_touches, some_writes};
 use word_arith::Size;
 
 /// The rules on key and exclusive stack (K). They look at one step alone, so the monitor keeps

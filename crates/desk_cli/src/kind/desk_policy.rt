@@ -1,4 +1,4 @@
-use bus_signals::Version;
+use device_types::Version;
 use input_files::{BadFile, Kind, POLICY_LIMIT};
 use report_verifier::{Policy, read_policy};
 use std::alloc::Global;

@@ -6,9 +6,9 @@ ghost use Rattle.device_core.specs.Device.{HeldStandsFor};
 ghost use Rattle.device_play.specs.{Limit.most_steps, Watching.IsPoweredOn};
 ghost use Rattle.device_cli.specs.Row.{DevicePlay, start_in};
 
-use bus_signals::TraceFlag;
 use device_core::{Device, Held};
 use device_play::{PutFault, Watcher, play_before};
+use device_types::TraceFlag;
 use hmac_core::Digest32;
 use outside_edge::{Failed, Sink};
 use play_script::Script;

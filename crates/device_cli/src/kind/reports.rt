@@ -9,7 +9,7 @@ pub struct Reports;
 
 impl Kind for Reports {
     ghost use Rattle.std.specs.Prelude.{List};
-    ghost use Rattle.bus_signals.specs.Report.{ReportFields};
+    ghost use Rattle.device_types.specs.Report.{ReportFields};
     ghost use Rattle.device_cli.specs.FileKind.{reports_kind};
 
     type Value = Vec<Report>;

@@ -1,5 +1,5 @@
 ghost use Rattle.std.specs.Prelude.{◌≡◌, ◌<◌, ◌^◌, List, Some, IfOk, IfSome, IsTrue, option_map};
-ghost use Rattle.bus_signals.specs.Report.{fields_of};
+ghost use Rattle.device_types.specs.Report.{fields_of};
 ghost use Rattle.part_definitions.specs.Memory.{PowerOn, ShownFlags, MemoryWrite, byte_at};
 ghost use Rattle.device_trace.specs.Text.{some_line};
 ghost use Rattle.mem_map.specs.Memory.{MemoryStandsFor};
@@ -9,8 +9,8 @@ ghost use Rattle.device_play.specs.Cuts.{CountsWriteFaults, StopsOnlyAt};
 ghost use Rattle.device_cli.specs.{Judgement.{TellsOutput, pair_cuts, pair_line, pair_shown, remark_cuts, remark_lines, remark_on, tally_after}, Verdicts.is_accept};
 
 use crate::verdict::tally::Tally;
-use bus_signals::ReportView;
 use device_play::PutFault;
+use device_types::ReportView;
 use hmac_core::Digest32;
 use mem_map::Memory;
 use outside_edge::Sink;

@@ -2,9 +2,9 @@ ghost use Rattle.std.specs.Prelude.{◌≡◌};
 
 use crate::verdict::judgement::judge_last;
 use crate::verdict::tally::Tally;
-use bus_signals::TraceFlag;
 use device_core::Live;
 use device_play::{PutFault, Watcher, print_end_of, print_last_step};
+use device_types::TraceFlag;
 use hmac_core::Digest32;
 use outside_edge::{Failed, Sink};
 use report_verifier::Verifier;

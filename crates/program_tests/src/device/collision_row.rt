@@ -3,10 +3,10 @@
 use crate::attested_device::{EXEC_REGIONS, REQUESTED_IMAGE, image_of};
 use crate::device::{ASKED, KEY};
 use crate::inputs::text_of;
-use bus_signals::NoFlag;
 use device_cli::Judging;
 use device_core::power_on;
 use device_play::play_before;
+use device_types::NoFlag;
 use hex_loader::read_hex;
 use hmac_core::Constant;
 use outside_edge::MemSink;

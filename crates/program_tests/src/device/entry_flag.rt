@@ -4,9 +4,9 @@ use crate::attested_device::VECTOR_AND_END;
 use crate::device::KEY;
 use crate::device::edge_image::REQUEST;
 use crate::inputs::text_of;
-use bus_signals::{Bounds, BusRecord, Signals, TraceFlag};
 use device_core::power_on;
 use device_play::{LineWatcher, play_before};
+use device_types::{Bounds, BusRecord, Signals, TraceFlag};
 use hex_loader::read_hex;
 use hmac_core::Sha256Digest;
 use outside_edge::MemSink;
@@ -26,7 +26,7 @@ struct EntryFlag {
 impl TraceFlag for EntryFlag {
     ghost use Rattle.std.specs.Prelude.{◌≡◌, ◌==◌, false, option_map, unwrap_or};
     ghost use Rattle.std.proofs.Common.{◌∙◌, sym};
-    ghost use Rattle.bus_signals.specs.ExecFlag.{last_pc};
+    ghost use Rattle.device_types.specs.ExecFlag.{last_pc};
 
     ghost flag = { record {
       value = λ records. unwrap_or (option_map (λ pc. pc == 0xA000) (last_pc records)) false;

@@ -1,7 +1,7 @@
 //! Loads: what is drawn, and lines by their kind.
 
-use bus_signals::Event;
 use device_cli::{LineCounts, LineTally, draw_script};
+use device_types::Event;
 use play_script::read_script;
 use std::test::Fail;
 

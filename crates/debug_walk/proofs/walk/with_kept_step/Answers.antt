@@ -1,5 +1,5 @@
 use Rattle.std.proofs.Common.{◌≡◌, ◌-◌, ◌∙◌, suc, true, is_some, refl, sym, subst, arith}
-use Rattle.bus_signals.specs.declared.bus_record.BusRecord.{BusRecord}
+use Rattle.device_types.specs.declared.bus_record.BusRecord.{BusRecord}
 use Rattle.device_core.specs.Device.{machine_of}
 use Rattle.debug_session.specs.Place.{aux_at, exec_at, step_at}
 use Rattle.debug_walk.proofs.Views.{aux-at, exec-at, last-entry}

@@ -1,5 +1,5 @@
 use Rattle.std.proofs.Common.{◌++◌, ap}
-use Rattle.bus_signals.specs.Address.{Bytes}
+use Rattle.device_types.specs.Address.{Bytes}
 use Rattle.device_trace.specs.Text.{play_text}
 use Rattle.device_play.specs.Accounts.{end_line_of}
 use Rattle.device_cli.proofs.RoundPieces.{device-lines}

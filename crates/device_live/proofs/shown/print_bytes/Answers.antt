@@ -1,6 +1,6 @@
 use Rattle.std.proofs.Common.{◌≡◌, ◌<◌, ◌∙◌, ◌++◌, ◌∷◌, ap, arith, codes, length, subst, sym}
 use Rattle.std.proofs.lemmas.Bool.Decides.{nat_tests}
-use Rattle.bus_signals.specs.Address.{Bytes}
+use Rattle.device_types.specs.Address.{Bytes}
 use Rattle.hex.specs.Hex.{encode_lower}
 use Rattle.outside_edge.specs.Sink.{Puts, TakesPrefix}
 use Rattle.outside_edge.proofs.SinkLemmas.{prefix_of_more, puts-failed, puts_after}

@@ -1,5 +1,5 @@
 use Rattle.std.proofs.Common.{◌≡◌, ◌∙◌, arith, min, subst}
-use Rattle.bus_signals.specs.Address.{Bytes}
+use Rattle.device_types.specs.Address.{Bytes}
 use Rattle.debug_session.specs.{Place.sight_at, Shown.bytes_shown}
 use Rattle.outside_edge.specs.Sink.{Puts}
 use Rattle.device_live.specs.{Answer.run_of, Shown.memory_text}

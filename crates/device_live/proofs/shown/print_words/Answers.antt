@@ -1,6 +1,6 @@
 use Rattle.std.proofs.Common.{◌≡◌, ◌∙◌, ◌++◌, [], ap, arith, codes, drop, map, subst}
 use Rattle.std.proofs.lemmas.List.{drop_all}
-use Rattle.bus_signals.specs.Address.{Bytes}
+use Rattle.device_types.specs.Address.{Bytes}
 use Rattle.outside_edge.specs.{Sink.Puts, declared.sink.Failed.Failed}
 use Rattle.printed_lines.specs.Line.{with_pieces, word_digits}
 use Rattle.device_live.specs.Shown.{registers_text}

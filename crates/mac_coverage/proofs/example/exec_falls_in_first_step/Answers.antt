@@ -2,7 +2,7 @@ use Rattle.std.proofs.Common.{refl}
 use Rattle.word_arith.specs.{Op2.alu_result, Op1.shift_result}
 use Rattle.msp_decode.specs.Head.{head_of}
 use Rattle.part_definitions.specs.{Attestation.call_items, FirstRule.first_rule, NextAccess.{next_access, entry_access}, MonitorRule.{key_rule, atomicity_rule}}
-use Rattle.bus_signals.specs.ExecFlag.{exec}
+use Rattle.device_types.specs.ExecFlag.{exec}
 use Rattle.device_trace.specs.{Logs.{with_events, with_record}, Signals.signals_at, Step.{record_of, next_record}, Trace.{logs_after, trace}}
 use Rattle.mac_coverage.proofs.example.exec_falls_in_first_step.Goals as goal
 

@@ -1,5 +1,5 @@
 use Rattle.std.proofs.Common.{rules, ◌∙◌, ap, sym, ◌++◌, List, ℕ}
-use Rattle.bus_signals.specs.Report.{fields_of}
+use Rattle.device_types.specs.Report.{fields_of}
 use Rattle.mem_map.specs.Image.{byte_in}
 use Rattle.part_definitions.specs.{Attestation.derived_key, Hmac.hmac}
 use Rattle.report_verifier.specs.Expectation.{expected_metadata, image_code}

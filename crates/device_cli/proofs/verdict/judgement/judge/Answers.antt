@@ -1,5 +1,5 @@
 use Rattle.std.proofs.Common.{Ok, Err}
-use Rattle.bus_signals.specs.Report.{fields_of}
+use Rattle.device_types.specs.Report.{fields_of}
 use Rattle.part_definitions.specs.Memory.{byte_at}
 use Rattle.outside_edge.proofs.SinkLemmas.{puts-failed}
 use Rattle.report_verifier.specs.Judge.{Judge, judge_of}

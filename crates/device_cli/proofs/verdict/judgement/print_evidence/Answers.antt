@@ -1,6 +1,6 @@
 use Rattle.std.proofs.Common.{List, ℕ, ap}
 use Rattle.std.proofs.Math.Path.{subst}
-use Rattle.bus_signals.specs.Report.{fields_of}
+use Rattle.device_types.specs.Report.{fields_of}
 use Rattle.part_definitions.specs.Memory.{byte_at}
 use Rattle.outside_edge.specs.Sink.{Takes, TakesPrefix}
 use Rattle.outside_edge.proofs.SinkLemmas.{puts-failed}

@@ -1,5 +1,5 @@
 use Rattle.std.proofs.Common.{◌≡◌, ◌∙◌, ℕ, None, false, refl, sym, ap}
-use Rattle.bus_signals.specs.{declared.kind.Kind.TheVariants.Cpu, Address.even}
+use Rattle.device_types.specs.{declared.kind.Kind.TheVariants.Cpu, Address.even}
 use Rattle.part_definitions.specs.{CpuRegister.pc_of, CpuState.{Boundary, cpu_after}, NextAccess.is_illegal}
 use Rattle.msp_exec.specs.Level.{level_begun}
 use Rattle.device_trace.specs.{Level.level_after, Progress.{Progress, Runs, last_registers}}

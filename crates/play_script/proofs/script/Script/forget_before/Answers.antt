@@ -1,5 +1,5 @@
 use Rattle.std.proofs.Common.{◌∙◌, List, ℕ, ap}
-use Rattle.bus_signals.specs.declared.event.Event.{Event}
+use Rattle.device_types.specs.declared.event.Event.{Event}
 use Rattle.play_script.specs.Script.{TimedEvent, from_step}
 use Rattle.play_script.proofs.Passing.{from-drop}
 use Rattle.play_script.proofs.script.Script.forget_before.Goals as goal

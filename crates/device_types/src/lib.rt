@@ -1,4 +1,5 @@
-//! The signals of the bus: accesses, steps, records, regions and the traits of those that use them.
+//! The types in which a device is told: the accesses, signals and records of its steps, its map and
+//! regions, the bounds and flags that a report names, and the traits of those that watch it.
 //!
 //! A step of the device is one bus step. What it is about to do is a [`Signals`], what it did is a
 //! [`BusRecord`]. The regions are those of VRASED (USENIX Security 2019) and APEX (USENIX Security

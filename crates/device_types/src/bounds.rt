@@ -1,5 +1,5 @@
 ghost use Rattle.std.specs.Prelude.{◌≡◌};
-ghost use Rattle.bus_signals.specs.Bounds.{words_region, executable_region, output_region, is_part_of, is_free_region, is_valid_region, are_valid_beside, are_valid, are_valid_one, is_disjoint};
+ghost use Rattle.device_types.specs.Bounds.{words_region, executable_region, output_region, is_part_of, is_free_region, is_valid_region, are_valid_beside, are_valid, are_valid_one, is_disjoint};
 
 use crate::map::{META, META_ONE, MR, PROGRAM, RAM};
 use crate::region::Region;

@@ -1,6 +1,6 @@
 -- The names of rules, as the program prints them.
 use Rattle.std.specs.Prelude.{[], ◌∷◌, codes}
-use Rattle.bus_signals.specs.{declared.rule.Rule.{Rule, TheVariants.{X0, A1, A2, A3, A4, K1, K2, K3, K4, K5, K6, I1}}, Address.Bytes}
+use Rattle.device_types.specs.{declared.rule.Rule.{Rule, TheVariants.{X0, A1, A2, A3, A4, K1, K2, K3, K4, K5, K6, I1}}, Address.Bytes}
 use Rattle.named_value.specs.Names.{Names}
 
 abbrev pub rule_name : Rule → Bytes

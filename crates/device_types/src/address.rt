@@ -1,5 +1,5 @@
 ghost use Rattle.std.specs.Prelude.{◌≡◌};
-ghost use Rattle.bus_signals.specs.Address.{even};
+ghost use Rattle.device_types.specs.Address.{even};
 
 /// An address with bit 0 cleared: where the word lies that has the byte at this one.
 #[inline(always)]

@@ -1,6 +1,6 @@
 -- What an attestation report tells.
 use Rattle.std.specs.Prelude.{ℕ, Bool, Option, option_map}
-use Rattle.bus_signals.specs.{declared.{bounds.Bounds.Bounds, report_view.ReportView.ReportView, version.Version.Version}, Address.Bytes}
+use Rattle.device_types.specs.{declared.{bounds.Bounds.Bounds, report_view.ReportView.ReportView, version.Version.Version}, Address.Bytes}
 
 -- the step that finished the call, the EXEC flag, the second flag and the counter of the request
 -- (false and 0 in version 1), challenge and bounds, the bytes of OR where they are valid, the MAC

@@ -1,6 +1,6 @@
 -- The bounds of the executable region ER and the output region OR, and which are valid. (APEX.)
 use Rattle.std.specs.Prelude.{◌<◌, ◌+◌, ◌==◌, ◌&&◌, ◌||◌, ◌%◌, ◌^◌, Bool, nat_le, nat_lt}
-use Rattle.bus_signals.specs.{declared.{region.Region.Region, bounds.Bounds.Bounds}, Map.{ram_region, program_region, mac_region, metadata_region, version_one_metadata}, Address.Address}
+use Rattle.device_types.specs.{declared.{region.Region.Region, bounds.Bounds.Bounds}, Map.{ram_region, program_region, mac_region, metadata_region, version_one_metadata}, Address.Address}
 
 -- the places are words
 pub record AreWords (bounds : Bounds) : Type 0 where
