@@ -14,14 +14,16 @@ use outside_edge::{Shelf, Sink, Source};
 use source_server::HeldLine;
 use std::alloc::Global;
 
-type FileValues = ([u8; 64], mem_map::Image);
-
-// The files of a device in the order in which they are read.
-type LiveFiles<'a> = (File<'a, Key>, File<'a, Image>);
+/// The files of a device, in the order in which they are read.
+#[derive(Clone, Copy)]
+pub struct LiveFiles<'a> {
+    key: File<'a, Key>,
+    image: File<'a, Image>,
+}
 
 /// The files that the arguments name, where they spell `live`.
 pub fn live_files(arguments: &[String]) -> Option<LiveFiles<'_>>
-    ensures { option_map (λ found. live_row found.1.name.now found.0.name.now) result
+    ensures { option_map (λ found. live_row found.image.name.now found.key.name.now) result
         ≡ live_row_of (texts arguments.now) }
 {
     let [command, image, key] = arguments else {
@@ -30,9 +32,10 @@ pub fn live_files(arguments: &[String]) -> Option<LiveFiles<'_>>
     if command.as_str() != "live" {
         return None;
     }
-    let key = File::new(key.as_str(), Key);
-    let image = File::new(image.as_str(), Image);
-    Some((key, image))
+    Some(LiveFiles {
+        key: File::new(key.as_str(), Key),
+        image: File::new(image.as_str(), Image),
+    })
 }
 
 /// Runs `live` with these files.
@@ -46,10 +49,14 @@ pub fn run_live<S: Shelf, R: Source, W: Sink + Drop>(
     ensures { (left : Option ℕ) → IsSessionAnswer S.Shelf R.Source W.Sink shelf.old shelf.new left
         (record { source = source.old; sink = sink })
         (record { source = source.new; sink = result.1 })
-        (Some (live_row files.now.1.name.now files.now.0.name.now)) result.0 }
+        (Some (live_row files.now.image.name.now files.now.key.name.now)) result.0 }
 {
-    match files.read::<SessionEnd, S>(alloc, shelf) {
-        Ok(values) => serve_life(alloc, &values, source, sink),
+    let inputs = (files.key, files.image);
+    match inputs.read::<SessionEnd, S>(alloc, shelf) {
+        Ok(values) => {
+            let (key, image) = values;
+            serve_life(alloc, &key, &image, source, sink)
+        }
         Err(refusal) => (Status::of_refusal(refusal), sink),
     }
 }
@@ -57,18 +64,18 @@ pub fn run_live<S: Shelf, R: Source, W: Sink + Drop>(
 // Answers the lines of a source from the power-on of the device that these files say.
 fn serve_life<R: Source, W: Sink + Drop>(
     alloc: Global,
-    values: &FileValues,
+    key: &[u8; 64],
+    image: &mem_map::Image,
     source: &mut R,
     sink: W,
 ) -> (Status, W)
     ensures served { HasServed R.Source W.Sink None
-        (Lives (start_with values.now.0 (byte_in values.now.1)))
+        (Lives (start_with key.now (byte_in image.now)))
         (record { source = source.old; sink = sink })
         (record { source = source.new; sink = result.1 }) result.0 }
     ensures source_faults { R.faults source.old ≤ R.faults source.new }
     ensures sink_faults { W.faults sink ≤ W.faults result.1 }
 {
-    let (key, image) = values;
     let Ok(device) = power_on::<Sha256Digest, AuxFlag>(alloc, key, image, AuxFlag::new()) else {
         return (Status::Memory, sink);
     };

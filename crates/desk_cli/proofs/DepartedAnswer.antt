@@ -5,7 +5,7 @@ use Rattle.std.specs.Str.{bytes_eq}
 use Rattle.std.proofs.lemmas.Bool.{cases_Bool}
 use Rattle.outside_edge.specs.declared.sink.Sink as sink
 use Rattle.desk_memory.specs.declared.memory.Memory as memory
-use Rattle.desk_memory.specs.{AnswerRead.most_number, Entry.{Entry, last_in, with_entry}, Moving.{with_departure, gone_to, is_gone_to, is_here, lines_at, moved_lines}}
+use Rattle.desk_memory.specs.{AnswerReader.most_number, Entry.{Entry, last_in, with_entry}, Moving.{with_departure, gone_to, is_gone_to, is_here, lines_at, moved_lines}}
 use Rattle.input_files.specs.{declared.{status.Status.Status, unfit.Unfit.Unfit}}
 use Rattle.desk_cli.specs.{Move.{Departs, KeepsAndPuts, MoveNames, Stays, departure, home_behind}, States.PutsText, StateText.states_text}
 use Rattle.desk_cli.proofs.DepartedLines.{departed-lines}

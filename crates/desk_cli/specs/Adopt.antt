@@ -54,8 +54,8 @@ abbrev pub Adopts : {M : Type 0} → memory.Ghosts M → NumberedEntries → Sta
 Adopts m lines status desk entries opened left =
     AdoptsIf m opened left entries lines.entries (first_refused desk entries lines) status
 
--- an answer to arguments that may name lines and a memory: the lines were refused, and no memory was
--- opened, or it was used with them
+-- an answer to arguments that may name lines and a memory: the lines were refused, and no memory
+-- was opened, or it was used with them
 pub record IsAdoptAnswer {S F M : Type 0} (s : shelves.Ghosts S) (told : ToldMemories F M)
     (m : memory.Ghosts M) (desk_of : M → List ℕ) (shelf shelf_after : S)
     (memories memories_after : F) (names : Option AdoptNames) (status : Status) : Type 0 where

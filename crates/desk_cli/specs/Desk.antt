@@ -1,6 +1,7 @@
 -- The command `desk`: it serves devices over the lines of a source.
 use Rattle.std.specs.Prelude.{◌≡◌, ◌<◌, ◌≤◌, ◌⊎◌, ◌↔◌, ◌+◌, ℕ, List, [], ◌∷◌, length, Option, Some, None, IfSome, Ok}
 use Rattle.sha2.specs.Sha256.{sha256}
+use Rattle.mem_map.specs.Image.{byte_in}
 use Rattle.outside_edge.specs.{Count.Rose, Shelf.KeepsFiles}
 use Rattle.outside_edge.specs.declared.shelf.Shelf as shelves
 use Rattle.outside_edge.specs.declared.sink.Sink as sink
@@ -11,7 +12,7 @@ use Rattle.desk_memory.specs.{declared.no_memory.NoMemory.NoMemory, Entry.Entry,
 use Rattle.source_server.specs.{declared.served.Served.Served, Serving.Serves, Taken.{KeepsLimit, most_input}, Ports.Ports}
 use Rattle.verifier_desk.specs.{declared.answer_fault.AnswerFault.AnswerFault, Desk.desk_with, DeviceKey.DeviceKey, Gone.first_gone, KeyOwner.{IsFirstTaken, KeysStandApart}, Replies.DeskFields, Serving.desk_promise}
 use Rattle.input_files.specs.{declared.{status.Status.{Status, TheVariants.{BadMemory, Done, Memory, Spent, Words}}, unfit.Unfit.TheVariants.{GoneDevice, TakenKey}}, FileKind.image_kind, Reading.{IsUnread, Reaches, first_refusal}, Row.{RowOf, Ends, read_file}}
-use Rattle.desk_cli.specs.{FileKind.{desk_policy_kind, keys_kind}, MemoryFiles.{IsUnhindered, ToldMemories, UsesIf}, Status.status_of_served}
+use Rattle.desk_cli.specs.{declared.desk.FileValues.FileValues, FileKind.{desk_policy_kind, keys_kind}, MemoryFiles.{IsUnhindered, ToldMemories, UsesIf}, Status.status_of_served}
 
 -- the names of its files
 pub record DeskNames : Type 0 where
@@ -33,6 +34,10 @@ pub record DeskValues : Type 0 where
   pub devices : List DeviceKey
   pub image : ℕ → Option ℕ
   pub policy : PolicyFields
+
+abbrev pub values_of : FileValues → DeskValues
+values_of values =
+    record { devices = values.devices; image = byte_in values.image; policy = values.policy }
 
 -- the row that reads its files in their order; the memory is no file of a row
 abbrev pub desk_row : DeskNames → RowOf DeskValues

@@ -14,10 +14,10 @@ pub data Request : Type 0 where
   Making : Request
 
 -- What is told of memories by their names: that none was got yet; that what is there can be opened,
--- or a memory be made of it; why one was not got, between two moments; the desk and the entries that
--- an open finds, now or after a crash; that what was there at first is unharmed, now and after a
--- crash; that what was read of them is what was written; and the memory that was closed, as it was
--- left.
+-- or a memory be made of it; why one was not got, between two moments; the desk and the entries
+-- that an open finds, now or after a crash; that what was there at first is unharmed, now and after
+-- a crash; that what was read of them is what was written; and the memory that was closed, as it
+-- was left.
 pub record ToldMemories (F M : Type 0) : Type 1 where
   pub is_unopened : F → Type 0
   pub fits : Request → F → List ℕ → Type 0

@@ -3,7 +3,7 @@ use Rattle.std.specs.Prelude.{◌≡◌, ◌≤◌, ◌⊎◌, ◌↔◌, ◌==�
 use Rattle.std.specs.Str.{bytes_eq}
 use Rattle.outside_edge.specs.declared.sink.Sink as sink
 use Rattle.desk_memory.specs.declared.memory.Memory as memory
-use Rattle.desk_memory.specs.{declared.memory_fault.MemoryFault.MemoryFault, AnswerRead.most_number, Entry.{Entry, Home, home_of, last_in}, Moving.{with_departure, gone_to, is_gone_to, is_here, moved_lines}}
+use Rattle.desk_memory.specs.{declared.memory_fault.MemoryFault.MemoryFault, AnswerReader.most_number, Entry.{Entry, Home, home_of, last_in}, Moving.{with_departure, gone_to, is_gone_to, is_here, moved_lines}}
 use Rattle.input_files.specs.{declared.{status.Status.{Status, TheVariants.{BadMemory, Memory, Words}}, unfit.Unfit.{Unfit, TheVariants.{Gone, LastMove, NoDevice, OwnDesk}}}}
 use Rattle.desk_cli.specs.{Founding.is_name, MemoryFiles.{ToldMemories, UsesIf}, Noting.HasNoted, States.PutsText, StateText.states_text, Status.status_of_unkept}
 

@@ -3,7 +3,7 @@ ghost use Rattle.mem_map.specs.Image.{byte_in};
 ghost use Rattle.desk_memory.specs.{Entry.Entry, declared.no_memory.NoMemory.NoMemory as Forgetful, NoMemory.forgets};
 ghost use Rattle.verifier_desk.specs.{Desk.{DeskStandsFor, desk_with, no_lines_of}, Replies.DeskFields, Serving.Keeps};
 ghost use Rattle.input_files.specs.Argument.{texts};
-ghost use Rattle.desk_cli.specs.Desk.{HasServed, IsDeskAnswer, Meets, ServesFrom, desk_names_of};
+ghost use Rattle.desk_cli.specs.Desk.{HasServed, IsDeskAnswer, Meets, ServesFrom, desk_names_of, values_of};
 
 use crate::answer_status::{served_status, unopened_status};
 use crate::kind::desk_policy::DeskPolicy;
@@ -25,18 +25,30 @@ impl RowEnd for DeskEnd {
     ghost Outcome = { DeskValues };
 }
 
-// The files of a desk in the order in which they are read, and their values.
-type DeskFiles<'a> = (File<'a, Keys>, (File<'a, Image>, File<'a, DeskPolicy>));
+// The files of a desk, in the order in which they are read, and the name of its memory.
+#[derive(Clone, Copy)]
+struct DeskFiles<'a> {
+    keys: File<'a, Keys>,
+    image: File<'a, Image>,
+    policy: File<'a, DeskPolicy>,
+    memory: Option<&'a str>,
+}
 
-type FileValues = (KeyList, (mem_map::Image, Policy));
+/// What the files of a desk say: whom it serves, and what it judges reports by.
+#[derive(Drop)]
+pub struct FileValues {
+    pub devices: KeyList,
+    pub image: mem_map::Image,
+    pub policy: Policy,
+}
 
 // The files and the memory that the arguments after `desk` name.
-fn desk_files(arguments: &[String]) -> Option<(DeskFiles<'_>, Option<&str>)>
+fn desk_files(arguments: &[String]) -> Option<DeskFiles<'_>>
     ensures { option_map (λ found. record {
-      keys = found.0.0.name.now;
-      image = found.0.1.0.name.now;
-      policy = found.0.1.1.name.now;
-      memory = option_map (λ name. name.now) found.1;
+      keys = found.keys.name.now;
+      image = found.image.name.now;
+      policy = found.policy.name.now;
+      memory = option_map (λ name. name.now) found.memory;
     }) result ≡ desk_names_of (texts arguments.now) }
 {
     let (keys, image, policy, memory) = match arguments {
@@ -44,10 +56,12 @@ fn desk_files(arguments: &[String]) -> Option<(DeskFiles<'_>, Option<&str>)>
         [keys, image, policy, memory] => (keys, image, policy, Some(memory.as_str())),
         _ => return None,
     };
-    let keys = File::new(keys.as_str(), Keys);
-    let image = File::new(image.as_str(), Image);
-    let policy = File::new(policy.as_str(), DeskPolicy);
-    Some(((keys, (image, policy)), memory))
+    Some(DeskFiles {
+        keys: File::new(keys.as_str(), Keys),
+        image: File::new(image.as_str(), Image),
+        policy: File::new(policy.as_str(), DeskPolicy),
+        memory,
+    })
 }
 
 /// Opens the desk of these arguments after `desk`, and serves the source.
@@ -64,11 +78,20 @@ pub fn run_desk<S: Shelf, M: EntryMemory + Drop, F: MemoryFiles<M>, R: Source, W
         (record { source = source.new; sink = sink.new })
         (desk_names_of (texts arguments.now)) result }
 {
-    let Some((files, memory)) = desk_files(arguments) else {
+    let Some(files) = desk_files(arguments) else {
         return Status::Words;
     };
-    match files.read::<DeskEnd, S>(alloc, shelf) {
-        Ok(values) => serve_files(alloc, values, memory, memories, source, sink),
+    let inputs = (files.keys, (files.image, files.policy));
+    match inputs.read::<DeskEnd, S>(alloc, shelf) {
+        Ok(values) => {
+            let (devices, (image, policy)) = values;
+            let values = FileValues {
+                devices,
+                image,
+                policy,
+            };
+            serve_files(alloc, values, files.memory, memories, source, sink)
+        }
         Err(refusal) => Status::of_refusal(refusal),
     }
 }
@@ -83,12 +106,7 @@ fn serve_files<M: EntryMemory + Drop, F: MemoryFiles<M>, R: Source, W: Sink>(
     sink: &mut W,
 ) -> Status
     ensures served { ServesFrom F.told R.Source M.Memory M.desk_of W.Sink
-        (record {
-          devices = values.0;
-          image = byte_in values.1.0;
-          policy = values.1.1;
-        })
-        (option_map (λ name. name.now) memory.entry) memories.old memories.new
+        (values_of values) (option_map (λ name. name.now) memory.entry) memories.old memories.new
         (record { source = source.old; sink = sink.old })
         (record { source = source.new; sink = sink.new }) result }
     ensures source_faults { R.faults source.old ≤ R.faults source.new }
@@ -116,14 +134,18 @@ fn serve_alone<R: Source, W: Sink>(
 ) -> Status
     ensures served { (opened : Forgetful) × (left : Forgetful)
         × HasServed R.Source forgets W.Sink
-        (desk_with values.0 (byte_in values.1.0) values.1.1 []) opened left
+        (desk_with values.devices (byte_in values.image) values.policy []) opened left
         (record { source = source.old; sink = sink.old })
         (record { source = source.new; sink = sink.new }) result }
     ensures source_faults { R.faults source.old ≤ R.faults source.new }
     ensures sink_faults { W.faults sink.old ≤ W.faults sink.new }
 {
-    let (keys, (image, policy)) = values;
-    let desk = Desk::new(alloc, keys, image, policy, &[]);
+    let FileValues {
+        devices,
+        image,
+        policy,
+    } = values;
+    let desk = Desk::new(alloc, devices, image, policy, &[]);
     serve_from(alloc, desk, NoMemory, source, sink).0
 }
 
@@ -139,31 +161,30 @@ fn serve_over<M: EntryMemory, R: Source, W: Sink>(
     ensures meets { (entries : List Entry) × M.stands memory entries
         × (Keeps M.Memory memory entries
         → Meets R.Source M.Memory W.Sink
-        (record {
-          devices = values.0;
-          image = byte_in values.1.0;
-          policy = values.1.1;
-        })
-        (record { source = source.old; sink = sink.old })
+        (values_of values) (record { source = source.old; sink = sink.old })
         (record { source = source.new; sink = sink.new }) result.0 (M.desk_of memory) entries
         memory result.1) }
     ensures source_faults { R.faults source.old ≤ R.faults source.new }
     ensures sink_faults { W.faults sink.old ≤ W.faults sink.new }
 {
-    let (keys, (image, policy)) = values;
+    let FileValues {
+        devices,
+        image,
+        policy,
+    } = values;
     let entries = memory.entries();
-    match first_taken(alloc, &keys, entries) {
+    match first_taken(alloc, &devices, entries) {
         Ok(None) => {}
         Ok(Some(place)) => return (Status::BadMemory(Unfit::TakenKey(place as u64 + 1)), memory),
         Err(_) => return (Status::Memory, memory),
     }
-    if let Some(place) = first_gone(&keys, entries) {
+    if let Some(place) = first_gone(&devices, entries) {
         return (
             Status::BadMemory(Unfit::GoneDevice(place as u64 + 1)),
             memory,
         );
     }
-    let desk = Desk::new(alloc, keys, image, policy, entries);
+    let desk = Desk::new(alloc, devices, image, policy, entries);
     serve_from(alloc, desk, memory, source, sink)
 }
 

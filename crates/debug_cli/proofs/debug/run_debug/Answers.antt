@@ -13,8 +13,8 @@ returns-in-Ok g c =
     served-answer g.S.Shelf g.R.Source g.W.Sink c.args.shelf.now c.read.new.shelf _
     (record { source = c.args.source.now; sink = c.args.sink })
     (record { source = c.serve_run.new.source; sink = c.serve_run.result.1 })
-    (debug_row c.args.files.now.1.0.name.now c.args.files.now.1.1.name.now
-    c.args.files.now.0.name.now) session
+    (debug_row c.args.files.now.image.name.now c.args.files.now.script.name.now
+    c.args.files.now.key.name.now) session
     c.serve_run.result.0
     (reads.values.reaches (Ok session) (refl {a = Ok session})) reads.kept served.served
     served.source_faults served.sink_faults
@@ -24,6 +24,6 @@ returns-in-Err g c =
     rw c.of_refusal.ensures
     (refused-answer g.S.Shelf g.R.Source g.W.Sink c.args.shelf.now c.read.new.shelf _
     (record { source = c.args.source.now; sink = c.args.sink })
-    (debug_row c.args.files.now.1.0.name.now c.args.files.now.1.1.name.now
-    c.args.files.now.0.name.now) _ c.in-Err.refusal
+    (debug_row c.args.files.now.image.name.now c.args.files.now.script.name.now
+    c.args.files.now.key.name.now) _ c.in-Err.refusal
     (c.in-Err.ensures debug_end))

@@ -13,7 +13,7 @@ returns-in-Ok g c = λ left.
     served-answer g.S.Shelf g.R.Source g.W.Sink c.args.shelf.now c.read.new.shelf left
     (record { source = c.args.source.now; sink = c.args.sink })
     (record { source = c.serve_life.new.source; sink = c.serve_life.result.1 })
-    (live_row c.args.files.now.1.name.now c.args.files.now.0.name.now) session c.serve_life.result.0
+    (live_row c.args.files.now.image.name.now c.args.files.now.key.name.now) session c.serve_life.result.0
     (reads.values.reaches (Ok session) (refl {a = Ok session})) reads.kept served.served
     served.source_faults served.sink_faults
 
@@ -22,5 +22,5 @@ returns-in-Err g c = λ left.
     rw c.of_refusal.ensures
     (refused-answer g.S.Shelf g.R.Source g.W.Sink c.args.shelf.now c.read.new.shelf left
     (record { source = c.args.source.now; sink = c.args.sink })
-    (live_row c.args.files.now.1.name.now c.args.files.now.0.name.now) _ c.in-Err.refusal
+    (live_row c.args.files.now.image.name.now c.args.files.now.key.name.now) _ c.in-Err.refusal
     (c.in-Err.ensures live_end))

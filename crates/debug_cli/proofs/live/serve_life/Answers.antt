@@ -1,4 +1,4 @@
-use Rattle.std.proofs.Common.{inl, inr, refl}
+use Rattle.std.proofs.Common.{inr, refl}
 use Rattle.debug_cli.proofs.live.serve_life.Goals as goal
 
 pub returns-in_default-clause-served : goal.returns-in_default-clause-served

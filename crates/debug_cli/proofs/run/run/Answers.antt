@@ -7,5 +7,5 @@ pub returns-in-Some-live_files : goal.returns-in-Some-live_files
 returns-in-Some-live_files g c =
     let files = c.in-Some-live_files.files in
     let row : session_row_of (texts c.args.arguments.now)
-    ≡ Some (live_row files.1.name.now files.0.name.now) = search rules in
+    ≡ Some (live_row files.image.name.now files.key.name.now) = search rules in
     rw row (c.run_live.ensures (g.I.Interrupts.left c.args.interrupts))

@@ -8,7 +8,7 @@ returns-clause-served g c =
     let values = c.args.values in (
       _,
       _,
-      c.serve_from.ensures.served (desk_with values.0 (byte_in values.1.0) values.1.1 [])
+      c.serve_from.ensures.served (desk_with values.devices (byte_in values.image) values.policy [])
           c.new-desk.ensures
           (record { has = tt; keeps = λ honest found may. absurd may; whole = λ honest. tt }),
     )
