@@ -2,7 +2,7 @@
 use Rattle.std.proofs.Common.{◌≡◌, ◌∙◌, ap, sym, refl, ℕ, List, [], ◌∷◌, inl, inr, map, Result, Ok, Err}
 use Rattle.text_scan.specs.{declared.{fault_at.FaultAt.FaultAt, fault_kind.FaultKind.FaultKind}, Line.text_lines, Reader.{◌>>=◌, in_line}}
 use Rattle.text_scan.proofs.WholeText.{text_read, text_refused, later_read, later_fault}
-use Rattle.asm_text.specs.{declared.statement.Statement.Statement, Meaning.{lone_statement, IsSource, IsFirstFault, IsFaultOf}, Operand.all_of, Source.{statement_of, source_of}}
+use Rattle.asm_text.specs.{declared.statement.Statement.Statement, IsSource.{lone_statement, IsSource, IsFirstFault, IsFaultOf}, Operand.all_of, Source.{statement_of, source_of}}
 
 -- what is done with a statement: the later ones follow it
 abbrev then_later : List (ℕ × List ℕ) → Statement → Result (List Statement) FaultAt

@@ -6,4 +6,4 @@ pub mod Token
 pub mod Operand
 pub mod Statement
 pub mod Source
-pub mod Meaning
+pub mod IsSource

@@ -6,7 +6,7 @@ use Rattle.std.proofs.lemmas.List.{append-nil, take_more}
 use Rattle.outside_edge.specs.Sink.{Takes, TakesPrefix}
 use Rattle.outside_edge.specs.declared.sink.Sink as sink
 use Rattle.outside_edge.proofs.SinkLemmas.{prefix_after, prefix_of_more, takes_both}
-use Rattle.debug_link.specs.{Conversation.{LONGEST_BODY, Answer, HaveCome, Input, Talk, answer_to, talk_after_message, bytes_of, count_of, interrupts_of, mark_of, talk_after_byte, with_answer, talk_with_byte, talk_with_inputs}, HeldBody.{HeldBody, short_body}, Link.{Message, Silence, Again, Damage, Whole, link_after, message_of}, Packet.{packet_of, packets_of}, Reading.{KeepsBody, ReaderStandsFor, heard_of}, Serving.{GoesOnTo, Parties, TalkStandsFor}, Writing.{Answers, PacketSink}, declared.{answer_fault.AnswerFault.AnswerFault, connection.Connection.{Connection, TheVariants.{Open, Closed}}, packet_reader.Heard.Heard}}
+use Rattle.debug_link.specs.{Conversation.{LONGEST_BODY, Answer, HaveCome, Input, Talk, answer_to, talk_after_message, bytes_of, count_of, interrupts_of, mark_of, with_mark, with_answer, talk_with_byte, talk_with_inputs}, HeldBody.{HeldBody, short_body}, Link.{Message, Silence, Again, Damage, Whole, link_after, message_of}, Packet.{packet_of, packets_of}, Reading.{KeepsBody, ReaderStandsFor, heard_of}, Serving.{GoesOnTo, Parties, TalkStandsFor}, Writing.{Answers, PacketSink}, declared.{answer_fault.AnswerFault.AnswerFault, connection.Connection.{Connection, TheVariants.{Open, Closed}}, packet_reader.Heard.Heard}}
 use Rattle.debug_link.specs.declared.packet_reader.Heard.TheVariants as heard
 use Rattle.debug_link.proofs.{Interrupts.{came-both, came-one, came-quiet, none-came}, Talks.{answered_more, bytes_both, closed_inputs, inputs_both, inputs_more, open_byte, quiet, quiet_bytes}}
 
@@ -24,7 +24,7 @@ module _ {T Session W : Type 0} (stands : T → Session → Type 0) (w : sink.Gh
       (mark_of old.packets.last (message_of talk.link byte))
       → ReaderStandsFor new.reader (link_after talk.link byte)
       → new.answerer ≡ old.answerer → new.packets.last ≡ old.packets.last
-      → TalkStandsFor stands w first new (talk_after_byte talk byte)
+      → TalkStandsFor stands w first new (with_mark talk byte)
   mark_put first old new talk byte so put reads answerer last =
       let message : Message = message_of talk.link byte in
       let Due : List ℕ → Type 0 =
@@ -79,7 +79,7 @@ module _ {T Session W : Type 0} (stands : T → Session → Type 0) (w : sink.Gh
   mark_failed first old new talk byte (Err fault) still so prefix is =
       let message : Message = message_of talk.link byte in
       let mark : List ℕ = mark_of talk.last message in
-      let rest = answered_more reply (talk_after_byte talk byte) message in
+      let rest = answered_more reply (with_mark talk byte) message in
       let Due : List ℕ → Type 0 =
       λ last. TakesPrefix w.stands old.packets.sink new.packets.sink (mark_of last message) in
       record {
@@ -99,12 +99,12 @@ module _ {T Session W : Type 0} (stands : T → Session → Type 0) (w : sink.Gh
   nothing_due talk (Whole body) other = absurd (other refl)
 
   pub byte_marked : (first : W) (new : Parties T W) (talk : Talk Session) (byte : ℕ)
-      → talk.is_over ≡ false → TalkStandsFor stands w first new (talk_after_byte talk byte)
+      → talk.is_over ≡ false → TalkStandsFor stands w first new (with_mark talk byte)
       → (heard_of (message_of talk.link byte) ≡ heard.Whole → ⊥)
       → GoesOnTo stands w first new (talk_with_byte reply talk byte) (Ok Open)
   byte_marked first new talk byte still so other =
       let same = open_byte reply talk byte still
-      ∙ nothing_due (talk_after_byte talk byte) (message_of talk.link byte) other in
+      ∙ nothing_due (with_mark talk byte) (message_of talk.link byte) other in
       rw same (record { all = (sym still, so); prefix = tt })
 
   -- a body that is too long
@@ -192,7 +192,7 @@ module _ {T Session Interrupt W : Type 0} (stands : T → Session → Type 0) (l
 
   pub byte_answered : (first : W) (old new : Parties T W) (talk : Talk Session) (byte : ℕ)
       (body : Option (List ℕ)) (result : Result Connection AnswerFault)
-      → talk.is_over ≡ false → TalkStandsFor stands w first old (talk_after_byte talk byte)
+      → talk.is_over ≡ false → TalkStandsFor stands w first old (with_mark talk byte)
       → ReaderStandsFor new.reader (link_after talk.link byte)
       → heard_of (message_of talk.link byte) ≡ heard.Whole
       → KeepsBody old.reader (message_of talk.link byte)
@@ -202,7 +202,7 @@ module _ {T Session Interrupt W : Type 0} (stands : T → Session → Type 0) (l
       × GoesOnTo stands w first new (talk_with_byte (reply interrupt) talk byte) result
   byte_answered first old new talk byte body result still so reads is kept held answers =
       let told =
-      whole_answered first old new (talk_after_byte talk byte)
+      whole_answered first old new (with_mark talk byte)
       (message_of talk.link byte) body result so
       reads is kept held answers in
       (told.0, told.1, rw (open_byte (reply told.0) talk byte still) told.2)

@@ -2,13 +2,13 @@
 use Rattle.std.proofs.Common.{◌≡◌, ◌∙◌, ◌++◌, ℕ, true, false, List, [], ◌∷◌, None, Option, map, refl, ap, sym, append_assoc, ⊎_elim}
 use Rattle.std.proofs.lemmas.Bool.{cases_Bool}
 use Rattle.std.proofs.lemmas.List.{append-nil, map-append}
-use Rattle.debug_link.specs.{Conversation.{Answer, Input, Talk, answer_to, talk_after_message, bytes_of, mark_of, talk_after_byte, talk_with_byte, talk_with_inputs}, Link.{Message, Silence, Again, Damage, Whole, message_of}, Packet.packets_of}
+use Rattle.debug_link.specs.{Conversation.{Answer, Input, Talk, answer_to, talk_after_message, bytes_of, mark_of, with_mark, talk_with_byte, talk_with_inputs}, Link.{Message, Silence, Again, Damage, Whole, message_of}, Packet.packets_of}
 
 module _ {Session : Type 0} (reply : Session → List ℕ → Answer Session) where
   -- a byte while the conversation is open
   pub open_byte : (talk : Talk Session) (byte : ℕ) → talk.is_over ≡ false
       → talk_with_byte reply talk byte
-      ≡ talk_after_message reply (talk_after_byte talk byte) (message_of talk.link byte)
+      ≡ talk_after_message reply (with_mark talk byte) (message_of talk.link byte)
   unfolding talk_with_byte
   open_byte talk byte is = rw is refl
 
@@ -37,7 +37,7 @@ module _ {Session : Type 0} (reply : Session → List ℕ → Answer Session) wh
       ))
       (λ is.
       let message : Message = message_of talk.link byte in
-      let rest = answered_more (talk_after_byte talk byte) message in
+      let rest = answered_more (with_mark talk byte) message in
       let mark : List ℕ = mark_of talk.last message in (
         mark ++ rest.0,
         ap (λ (one : Talk Session). one.put) (open_byte talk byte is) ∙ rest.1

@@ -70,8 +70,8 @@ talk_after_message reply talk Damage = talk
 talk_after_message reply talk (Whole body) = with_answer talk (answer_to reply talk.session body)
 
 -- the talk with what is put of a byte at once
-abbrev pub talk_after_byte : {Session : Type 0} → Talk Session → ℕ → Talk Session
-talk_after_byte talk byte =
+abbrev pub with_mark : {Session : Type 0} → Talk Session → ℕ → Talk Session
+with_mark talk byte =
     record talk {
       link = link_after talk.link byte;
       put = talk.put ++ mark_of talk.last (message_of talk.link byte);
@@ -82,7 +82,7 @@ unfoldable pub talk_with_byte : {Session : Type 0} → (Session → List ℕ →
     → Talk Session → ℕ → Talk Session
 talk_with_byte reply talk byte =
     if talk.is_over then talk
-    else talk_after_message reply (talk_after_byte talk byte) (message_of talk.link byte)
+    else talk_after_message reply (with_mark talk byte) (message_of talk.link byte)
 
 -- What comes: a byte, and what interrupts the answer to the packet that it ends, if anything does.
 pub record Input (Interrupt : Type 0) : Type 0 where

@@ -8,7 +8,7 @@ use Rattle.text_scan.proofs.{NamedWord.value_of-name, PlainWords.{ArePlain, deci
 use Rattle.line_buffer.specs.LineLaw.{ArePieces}
 use Rattle.report_text.proofs.ReadLines.{plain-verdict, verdict_told}
 use Rattle.report_verifier.specs.VerdictName.{verdict_names}
-use Rattle.desk_memory.specs.{declared.answer.Answer.{Answer, TheVariants.{Stale, Bad, Spent, Requested, Judged}}, AnswerRead.{answer_of, answer_with, most_number}, AnswerText.{answer_text, answer_words}, SizedEntry.{is_short, is_short_answer}}
+use Rattle.desk_memory.specs.{declared.answer.Answer.{Answer, TheVariants.{Stale, Bad, Spent, Requested, Judged}}, AnswerReader.{answer_of, answer_with, most_number}, AnswerText.{answer_text, answer_words}, SizedEntry.{is_short, is_short_answer}}
 
 pub short : (number : ℕ) → is_short number ≡ true → number ≤ 4294967295
 short number is = let below = ltb-true number (2 ^ 32) is in omega (arith, below)

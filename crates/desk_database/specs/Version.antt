@@ -4,12 +4,12 @@ use Rattle.sqlite_value.specs.Order.{Row, column}
 use Rattle.sqlite_trees.specs.Objects.{number_in, version_tree, with_version}
 use Rattle.sqlite_trees.specs.Tree.{Trees}
 
-abbrev pub version_in : List Row → ℕ
-version_in [] = 0
-version_in (row ∷ more) = number_in (column row 1)
+abbrev pub user_version_in : List Row → ℕ
+user_version_in [] = 0
+user_version_in (row ∷ more) = number_in (column row 1)
 
 abbrev pub version_of : Trees → ℕ
-version_of trees = version_in (trees version_tree)
+version_of trees = user_version_in (trees version_tree)
 
 abbrev pub next_version : ℕ → ℕ
 next_version version = (version + 1) % 2 ^ 32

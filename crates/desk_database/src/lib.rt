@@ -18,6 +18,7 @@
 //! held.
 #![tactic(auto)]
 
+mod answer_reader;
 mod counted_commit;
 mod entry_row;
 mod first_page;
@@ -33,13 +34,13 @@ mod memory_tables;
 mod open_fault;
 mod opening;
 mod printed_answer;
-mod read_answer;
 mod row_entry;
 mod store_fault;
 mod store_memory;
 mod system_places;
 mod table_reading;
 
+pub use answer_reader::{answer_of_text, next_answer};
 pub use counted_commit::{commit_counted, count_opening};
 pub use entry_row::{desk_row, row_of};
 pub use law::table_is_of_one_list;
@@ -52,7 +53,6 @@ pub use memory_store::{make_store, open_store};
 pub use open_fault::OpenFault;
 pub use opening::{close_memory, make_files, make_memory, open_files, open_memory};
 pub use printed_answer::answer_text;
-pub use read_answer::{answer_of_text, next_answer};
 pub use row_entry::{desk_of, entry_of};
 pub use store_memory::StoreMemory;
 pub use system_places::SystemPlaces;

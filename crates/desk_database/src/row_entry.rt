@@ -6,8 +6,8 @@ ghost use Rattle.sqlite_value.specs.Value.{owned};
 ghost use Rattle.desk_memory.specs.{declared.{answer.Answer.Answer as Said, device_state.DeviceState.DeviceState as State}, Entry.{Entry as EntryFields, Home as EntryHome, home_fields}, SizedEntry.{is_short, is_short_line, is_short_number, is_sized}};
 ghost use Rattle.desk_database.specs.Rows.{desk_row, line_values, number_value, row_of, text_value};
 
+use crate::answer_reader::answer_of_text;
 use crate::entry_row::FORMAT;
-use crate::read_answer::answer_of_text;
 use desk_memory::{Answer, DeviceState, Entry, Home, MARK};
 use sqlite_value::row::Row;
 use sqlite_value::value::ValueRef;

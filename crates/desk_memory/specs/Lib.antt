@@ -1,4 +1,4 @@
-pub mod AnswerRead
+pub mod AnswerReader
 pub mod AnswerText
 pub mod DeviceState
 pub mod Entry

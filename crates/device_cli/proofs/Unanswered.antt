@@ -134,5 +134,6 @@ pub end-failed : {S : Type 0} (stands : S → List ℕ → Type 0) (faults : S �
     → PutsOutcome stands faults old new (with_unanswered outcome unanswered) result
 end-failed stands faults old mid new outcome unanswered result is lines quiet prefix rose =
     fails stands faults old new (with_unanswered outcome unanswered) result is
-    (prefix_after stands old mid new outcome.text (some_line unanswered_line unanswered) lines prefix)
+    (prefix_after stands old mid new outcome.text (some_line unanswered_line unanswered) lines
+    prefix)
     (rw quiet at rose)

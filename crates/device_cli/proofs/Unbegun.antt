@@ -144,7 +144,7 @@ pub unbegun : {S W : Type 0} (files : S → Files) (faults misses : S → ℕ)
     → IsRun files faults misses stands sink_faults shelf shelf_after sink sink_after
     (row_of arguments) status
     → is_round arguments ≡ false → status ≡ Memory → sink_after ≡ sink
-unbegun files faults misses stands sink_faults shelf shelf_after sink sink_after arguments status run
-    other is =
+unbegun files faults misses stands sink_faults shelf shelf_after sink sink_after arguments status
+    run other is =
     never-begun files faults misses stands sink_faults shelf shelf_after sink sink_after
     (row_of arguments) status run (row-uncut arguments other) is

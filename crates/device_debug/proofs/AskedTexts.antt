@@ -1,5 +1,5 @@
 -- The texts that a user asks for, as they are put.
-use Rattle.std.proofs.Common.{◌≡◌, ◌∙◌, ◌++◌, List, [], ℕ, Result, IsErr, sym, subst}
+use Rattle.std.proofs.Common.{◌≡◌, ◌++◌, List, [], ℕ, Result, IsErr, subst}
 use Rattle.outside_edge.specs.declared.sink.Sink as sink
 use Rattle.debug_link.specs.{Console.{HasAdded, console}, Writing.{PacketSink, PutsPackets}}
 use Rattle.debug_link.proofs.AddedText.{PutsPrefix, added_both, prefix_behind, prefix_end, text_finished, texts_failed}

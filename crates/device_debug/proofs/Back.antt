@@ -1,11 +1,11 @@
 -- What a walk looks at of a way, in pieces, is what going back looks for.
-use Rattle.std.proofs.Common.{◌≡◌, ◌≤◌, ◌<◌, ◌+◌, ◌-◌, ◌∙◌, ◌⊎◌, inl, inr, ⊎_elim, ℕ, zero, suc, Bool, true, false, List, [], ◌∷◌, ◌++◌, Option, Some, None, length, refl, ap, sym, subst, arith}
-use Rattle.std.specs.Prelude.{◌&&◌, ◌||◌, IfSome, nat_le, not, if◌then◌else◌}
+use Rattle.std.proofs.Common.{◌≡◌, ◌≤◌, ◌<◌, ◌+◌, ◌-◌, ◌∙◌, ◌⊎◌, inl, inr, ⊎_elim, ℕ, suc, Bool, true, false, List, [], ◌∷◌, ◌++◌, Option, Some, None, length, refl, ap, sym, subst, arith}
+use Rattle.std.specs.Prelude.{◌&&◌, ◌||◌, IfSome, nat_le, not}
 use Rattle.std.specs.Option.{option_or}
-use Rattle.std.proofs.lemmas.Bool.{and_right, cases_Bool, cases_lt, cond-true, cond-false, false≢true}
+use Rattle.std.proofs.lemmas.Bool.{cases_lt, cond-true, cond-false, false≢true}
 use Rattle.device_types.specs.{declared.{kind.Kind.{Kind, TheVariants.Idle}, rule.Rule.Rule}, Kind.{is_boot, is_cpu, is_rom}}
 use Rattle.part_definitions.specs.CpuRegister.{pc_of}
-use Rattle.debug_session.specs.{Request.most_steps, declared.{command.Way.TheVariants.{Ahead, Back}, stop.Stop.{Stop, TheVariants.Begin}, watch.Hit.Hit}, Stops.Stops, Watched.last_hit, Cause.{Step, ahead, begins_within, behind, boots, cause, hit_on, hits, is_plain, is_within, refusal, refusal_or, steps_over, stop_of}, Going.{Standing, last_stop}, Place.{Run, sight_at, view_of}, Sight.{Sight, View}}
+use Rattle.debug_session.specs.{Request.most_steps, declared.{command.Way.TheVariants.Back, stop.Stop.{Stop, TheVariants.Begin}}, Stops.Stops, Watched.last_hit, Cause.{Step, ahead, begins_within, behind, boots, cause, hit_on, hits, is_plain, is_within, refusal, refusal_or, steps_over, stop_of}, Going.last_stop, Place.{Run, sight_at, view_of}, Sight.{Sight, View}}
 use Rattle.debug_session.proofs.{Scans.{last-at, last-none}, Stretches.ahead-behind, Views.view-at}
 use Rattle.debug_walk.specs.{Passing.{IsSilent, Sleeps}, Walk.{IsStretch, first_refused}, declared.stretch.Stretch.Stretch}
 use Rattle.device_debug.specs.{Back.{IsLastBehind, stop_with_place, seek_back}, Seek.{cause_before, steps_by}}

@@ -3,7 +3,7 @@ use Rattle.std.proofs.Common.{◌≡◌, ◌≤◌, ◌-◌, ◌∙◌, ℕ, Lis
 use Rattle.std.specs.Prelude.{codes}
 use Rattle.hmac_core.specs.Hash.{Hash}
 use Rattle.outside_edge.specs.declared.sink.Sink as sink
-use Rattle.debug_link.specs.{Console.console, Conversation.{Answer, HaveCome, count_of}, Writing.{Answers, PacketSink, PutsPackets}, declared.{answer_fault.AnswerFault.AnswerFault, connection.Connection.Connection}}
+use Rattle.debug_link.specs.{Console.console, Conversation.{HaveCome, count_of}, Writing.{Answers, PacketSink, PutsPackets}, declared.{answer_fault.AnswerFault.AnswerFault, connection.Connection.Connection}}
 use Rattle.debug_session.specs.{Request.most_steps, declared.{command.{Going.Going, Way.{Way, TheVariants.{Ahead, Back}}}, request.Request.{Request, TheVariants.Until}, stop.Stop.Stop}, Cause.{Step, cause}, Going.{Standing, first_stop, interrupted, last_stop, step_of, where_to}, Monitor.request_text, Place.{Run, sight_at, view_of}, Session.{Session, after_request, lines_to, answer_to_request, says, stands_at}, Sight.Sight, StopReply.stop_reply, Stops.Stops}
 use Rattle.debug_session.proofs.Views.{view-at}
 use Rattle.debug_walk.specs.{Copies.TrackStandsFor, PlayedRun.played_run, Walk.{OfWalk, Walks, place_of}, declared.{track.Track.Track, walk.Walk.Walk}}

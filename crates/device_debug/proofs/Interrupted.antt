@@ -1,7 +1,7 @@
 -- Where an interrupt ends a way.
 use Rattle.std.proofs.Common.{◌≡◌, ◌≤◌, ℕ, Bool, true, false, Some, refl, arith}
-use Rattle.std.specs.Prelude.{◌&&◌, ◌||◌, ◌==◌, max, min}
-use Rattle.std.proofs.lemmas.Bool.{cond-true, eq-eqb, le-leb}
+use Rattle.std.specs.Prelude.{◌&&◌, ◌||◌, ◌==◌}
+use Rattle.std.proofs.lemmas.Bool.{cond-true, eq-eqb}
 use Rattle.debug_session.proofs.Between.{is-between}
 use Rattle.debug_session.specs.{Going.{Standing, interrupted, lies_between}, Sight.View, declared.stop.Stop.TheVariants.Interrupted}
 

@@ -1,9 +1,9 @@
 -- What is kept of all steps of a stretch tells why to stop behind it.
 use Rattle.std.proofs.Common.{◌≡◌, ◌<◌, ◌-◌, ◌∙◌, ◌⊎◌, inl, inr, ℕ, zero, suc, Bool, true, List, [], Option, Some, None, is_some, length, refl, ap, sym, arith}
-use Rattle.std.specs.Prelude.{◌&&◌, ◌||◌, nat_le, not, if◌then◌else◌}
+use Rattle.std.specs.Prelude.{◌&&◌, ◌||◌, not}
 use Rattle.std.proofs.lemmas.Bool.{cond-true}
 use Rattle.part_definitions.specs.CpuRegister.{pc_of}
-use Rattle.debug_session.specs.{declared.command.Way.TheVariants.Ahead, Cause.{Step, begins_within, behind, boots, cause_here, hit_on, hits, is_broken_at, is_due, is_plain, is_within, steps_over, stop_of}, Place.{Run, sight_at, view_of}, Sight.Sight, Stops.Stops}
+use Rattle.debug_session.specs.{declared.command.Way.TheVariants.Ahead, Cause.{Step, behind, cause_here, hit_on, hits, is_broken_at, is_due, is_plain, is_within, steps_over, stop_of}, Place.{Run, sight_at, view_of}, Sight.Sight, Stops.Stops}
 use Rattle.debug_session.proofs.Stretches.{HasBegin, has-begin}
 use Rattle.debug_walk.specs.{Walk.{IsStretch, TellsCause}, declared.stretch.Stretch.Stretch}
 use Rattle.device_debug.specs.Seek.{steps_by}

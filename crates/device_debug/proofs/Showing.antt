@@ -1,12 +1,12 @@
 -- What a debugger shows of where it stands.
 use Rattle.std.proofs.Common.{◌≡◌, ◌∙◌, ℕ, true, false, List, [], Option, Some, Result, ap, sym}
-use Rattle.std.specs.Prelude.{◌==◌, codes, min, if◌then◌else◌}
+use Rattle.std.specs.Prelude.{◌==◌, codes, min}
 use Rattle.std.proofs.lemmas.Bool.{cond-false, cond-true, eq-eqb, ne_eqb}
 use Rattle.hex.specs.Hex.{encode_lower}
 use Rattle.hmac_core.specs.Hash.{Hash}
 use Rattle.outside_edge.specs.declared.sink.Sink as sink
 use Rattle.debug_link.specs.{Writing.PacketSink, declared.{answer_fault.AnswerFault.AnswerFault, connection.Connection.Connection}}
-use Rattle.debug_session.specs.{Place.{Run, is_shown, sight_at, view_of}, Session.{Session, says}, Shown.{bytes_or, bytes_shown, memory_body, registers_bytes, registers_shown}, Sight.Sight}
+use Rattle.debug_session.specs.{Place.{is_shown, sight_at}, Session.{Session, says}, Shown.{bytes_or, bytes_shown, memory_body, registers_bytes, registers_shown}, Sight.Sight}
 use Rattle.debug_session.proofs.Views.{view-at}
 use Rattle.debug_walk.specs.{Walk.OfWalk, declared.walk.Walk.Walk}
 use Rattle.debug_walk.proofs.ShownBytes.{none-there, some-there}

@@ -2,7 +2,6 @@ pub mod Ahead
 pub mod Back
 pub mod Going
 pub mod GrownText
-pub mod Interrupts
 pub mod Seek
 pub mod Session
 pub mod StepText

@@ -2,7 +2,7 @@ ghost use Rattle.std.specs.Prelude.{◌≡◌, ℕ, Option, false, true};
 ghost use Rattle.debug_session.specs.Place.{sight_at};
 ghost use Rattle.debug_link.specs.Conversation.{HaveCome};
 ghost use Rattle.debug_walk.specs.Walk.{OfWalk};
-ghost use Rattle.device_debug.specs.Interrupts.{one_if};
+ghost use Rattle.word_arith.specs.Number.{bit_of};
 
 use crate::interrupts::Interrupts;
 use debug_walk::Walk;
@@ -41,8 +41,8 @@ impl Look {
     // Looks where it is due, until one has come.
     fn look<I: Interrupts>(&mut self, interrupts: &mut I, place: u64)
         ensures { (before : Option ℕ)
-            → HaveCome (one_if self.old.has_come) before (I.left interrupts.old)
-            → HaveCome (one_if self.new.has_come) before (I.left interrupts.new) }
+            → HaveCome (bit_of self.old.has_come) before (I.left interrupts.old)
+            → HaveCome (bit_of self.new.has_come) before (I.left interrupts.new) }
     {
         if !self.has_come && place >= self.next() {
             self.last = place;
@@ -60,8 +60,8 @@ impl Look {
             result ≡ true → (sight_at run place).boundary ≡ true) }
         ensures found { result ≡ true → self.new.has_come ≡ true }
         ensures came { (before : Option ℕ)
-            → HaveCome (one_if self.old.has_come) before (I.left interrupts.old)
-            → HaveCome (one_if self.new.has_come) before (I.left interrupts.new) }
+            → HaveCome (bit_of self.old.has_come) before (I.left interrupts.old)
+            → HaveCome (bit_of self.new.has_come) before (I.left interrupts.new) }
     {
         self.look(interrupts, walk.place());
         self.has_come && walk.is_at_boundary()

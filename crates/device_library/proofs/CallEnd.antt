@@ -37,7 +37,10 @@ shown-text files row accepted before after piece count empty shows
     (outcome, reaches, puts, lawful) = (
       outcome,
       reaches,
-      (puts.0, subst (λ (text : List ℕ). Shows text piece count) (sym (puts.1 [] (sym empty))) shows),
+      (
+        puts.0,
+        subst (λ (text : List ℕ). Shows text piece count) (sym (puts.1 [] (sym empty))) shows,
+      ),
       lawful,
     )
 

@@ -1,12 +1,11 @@
 -- The device of a life.
-use Rattle.std.proofs.Common.{◌≡◌, ◌∙◌, ℕ, Some, None, length, sym}
-use Rattle.device_types.specs.{Address.Bytes, TraceFlag.Flag}
+use Rattle.std.proofs.Common.{◌≡◌, ◌∙◌, Some, None}
+use Rattle.device_types.specs.TraceFlag.{Flag}
 use Rattle.hmac_core.specs.Hash.{Hash}
-use Rattle.printed_lines.specs.Line.{place_line}
-use Rattle.device_trace.specs.{Logs.exec_of, Progress.next_pc_of, Start.Start, Trace.logs_after}
+use Rattle.device_trace.specs.Start.{Start}
 use Rattle.device_core.specs.{Device.{LiveStandsFor, steps_made}, declared.live.Live.Live}
 use Rattle.device_play.proofs.IdlePlay.{length-play_of}
-use Rattle.device_live.specs.{Answer.standing_line, Life.{Life, events_in, play_lived}, Living.LivingStandsFor, declared.living.Living.Living}
+use Rattle.device_live.specs.{Life.{Life, events_in, play_lived}, Living.LivingStandsFor, declared.living.Living.Living}
 
 module _ {D G : Type 0} (hash : Hash D) (flag : Flag G) (living : Living D G) (start : Start)
     (life : Life) (stands : LivingStandsFor hash flag living start life) where

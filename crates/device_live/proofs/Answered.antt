@@ -1,5 +1,5 @@
 -- What a line's answer comes to.
-use Rattle.std.proofs.Common.{◌≡◌, ◌≤◌, ◌<◌, ◌-◌, ◌++◌, ◌∙◌, ℕ, true, false, List, [], Result, Ok, Err, refl, sym, arith, append-nil}
+use Rattle.std.proofs.Common.{◌≡◌, ◌≤◌, ◌<◌, ◌-◌, ℕ, true, false, List, Result, Ok, Err, refl, arith, append-nil}
 use Rattle.std.specs.Prelude.{IsErrAnd, nat_lt}
 use Rattle.std.proofs.lemmas.Bool.Decides.{nat_tests}
 use Rattle.device_types.specs.{Address.Bytes, TraceFlag.Flag, declared.event.Event.Event}

@@ -1,7 +1,6 @@
 -- What was put once a source was served, its end line among it.
-use Rattle.std.proofs.Common.{◌≡◌, ◌≤◌, ◌<◌, ◌+◌, ◌++◌, ◌∙◌, ◌⊎◌, ℕ, suc, List, [], ◌∷◌, Some, Result, Ok, Err, length, take, drop, refl, ap, sym, subst, arith, inl, inr, append_assoc, append-nil, length-append, ⊎_elim}
+use Rattle.std.proofs.Common.{◌≡◌, ◌≤◌, ◌+◌, ◌++◌, ◌∙◌, ◌⊎◌, ℕ, suc, List, [], ◌∷◌, Some, Result, Ok, Err, length, take, drop, refl, ap, sym, subst, arith, inl, inr, append_assoc, append-nil, length-append, ⊎_elim}
 use Rattle.std.specs.Prelude.{codes, nat_eq}
-use Rattle.std.specs.Str.Lines.{strip_carriage_return}
 use Rattle.std.specs.declared.alloc.AllocError.{AllocError}
 use Rattle.std.proofs.lemmas.Bool.{cases_Bool}
 use Rattle.device_types.specs.{Address.Bytes, TraceFlag.Flag}
@@ -10,10 +9,10 @@ use Rattle.outside_edge.specs.{Buffer.{Buffer, BufferStandsFor}, Count.Rose, Sin
 use Rattle.outside_edge.specs.declared.sink.Sink as sink
 use Rattle.outside_edge.specs.declared.source.Source as source
 use Rattle.outside_edge.proofs.{Counts.rose_since, SinkLemmas.{prefix_after, prefix_of_more, takes_both}}
-use Rattle.source_server.specs.{HeldLine.short_line, LineCut.{LineCut, all_lines, cut_of, no_lines, whole_lines, with_byte, with_bytes, with_last}, Lines.{StopsAmong, promise_of, within}, Responder.{Moment, Promise}, Serving.{EndsSo, Serves, StopsSo}, Taken.{IsAtEnd, joined_pieces, most_input}, declared.{halt.Halt.{Halt, TheVariants.{Write, Own}}, lines.Lines.Lines, served.Served.Served}}
+use Rattle.source_server.specs.{HeldLine.short_line, LineCut.{LineCut, all_lines, cut_of, no_lines, whole_lines, with_byte, with_bytes, with_last}, Lines.{promise_of, within}, Responder.{Moment, Promise}, Serving.{EndsSo, StopsSo}, Taken.{joined_pieces, most_input}, declared.{halt.Halt.{Halt, TheVariants.{Write, Own}}, lines.Lines.Lines, served.Served.Served}}
 use Rattle.source_server.specs.declared.served.Served.TheVariants as served
 use Rattle.device_trace.specs.Start.{Start}
-use Rattle.device_live.specs.{Answer.{or_refusal, standing_line}, Conversation.{answer_to, conversation, talk_of}, Faults.end_with, Life.{Life, at_power_on}, Living.LivingStandsFor, Responding.{AreFew, HasTold, LiveStart, StopsTold, live_promise}, Serving.{StopsBefore, StopsLife, life_promise}, declared.living.Living.Living}
+use Rattle.device_live.specs.{Answer.{or_refusal, standing_line}, Conversation.{answer_to, conversation, talk_of}, Faults.end_with, Life.{Life, at_power_on}, Living.LivingStandsFor, LineResponder.{AreFew, HasTold, LiveStart, StopsTold, live_promise}, Serving.{StopsLife, life_promise}, declared.living.Living.Living}
 
 -- bytes have no more lines than bytes
 byte-lines : (cut : LineCut) (byte : ℕ)

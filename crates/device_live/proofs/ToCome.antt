@@ -7,7 +7,7 @@ use Rattle.play_script.specs.{Grammar.{ScriptSoFar, timed_events, with_entry}, S
 use Rattle.play_script.proofs.Passing.{events_from}
 use Rattle.text_scan.specs.{declared.{fault_kind.FaultKind.{FaultKind, TheVariants.Order}, word_fault.WordFault.TheVariants.Kind}}
 use Rattle.device_trace.specs.Start.{Start}
-use Rattle.device_live.specs.{Life.{Life, events_in}, Living.{KeepsToCome, LivingStandsFor, TakesHappening}, declared.living.Living.Living}
+use Rattle.device_live.specs.{Life.Life, Living.{KeepsToCome, LivingStandsFor, TakesHappening}, declared.living.Living.Living}
 use Rattle.device_live.proofs.{Lives.entry-lived, ToldPlay.events_of-append}
 
 -- once more steps were made, what comes before them may be let go

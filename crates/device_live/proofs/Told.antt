@@ -1,5 +1,5 @@
 -- A device that lives, behind one line more.
-use Rattle.std.proofs.Common.{◌≡◌, ◌≤◌, ◌<◌, ◌+◌, ◌++◌, ◌∙◌, ℕ, suc, List, [], ◌∷◌, Option, Result, Ok, Err, length, take, refl, ap, sym, subst, arith}
+use Rattle.std.proofs.Common.{◌≡◌, ◌≤◌, ◌<◌, ◌+◌, ◌++◌, ℕ, suc, List, [], ◌∷◌, Result, Ok, Err, length, sym, subst, arith}
 use Rattle.std.specs.Prelude.{OnOk}
 use Rattle.std.proofs.Math.Seq.{take-length}
 use Rattle.std.specs.declared.alloc.AllocError.{AllocError}
@@ -10,7 +10,7 @@ use Rattle.outside_edge.specs.declared.sink.Sink as sink
 use Rattle.outside_edge.proofs.{Counts.rose_since, SinkLemmas.{prefix_after, takes_both}}
 use Rattle.source_server.specs.{HeldLine.short_line, LineResponder.{Settles, Tells}, Responder.Moment, declared.halt.Halt.{Halt, TheVariants.{Write, Own}}}
 use Rattle.device_trace.specs.Start.{Start}
-use Rattle.device_live.specs.{Answer.{Answer, or_refusal}, Conversation.{Talk, answer_to, talk_of}, Faults.halt_of, Life.Life, Living.{AnswersNumbered, LivingStandsFor}, Responding.{AreFew, HasTold, LiveStart, StopsTold, buffer_sink, live_promise}, declared.living.Living.Living}
+use Rattle.device_live.specs.{Answer.{Answer, or_refusal}, Conversation.{Talk, answer_to, talk_of}, Faults.halt_of, Life.Life, Living.{AnswersNumbered, LivingStandsFor}, LineResponder.{AreFew, HasTold, LiveStart, StopsTold, buffer_sink, live_promise}, declared.living.Living.Living}
 
 -- all of a text is a prefix of it
 pub whole-prefix : {S : Type 0} (stands : S → Bytes → Type 0) (old new : S) (text : Bytes)

@@ -6,7 +6,7 @@ use Rattle.printed_lines.specs.Line.{line_of, place_line}
 use Rattle.text_scan.specs.{declared.fault_kind.FaultKind.FaultKind, FaultName.fault_name, Reader.◌>>=◌}
 use Rattle.device_trace.specs.{Logs.exec_of, Progress.{last_registers, next_pc_of}, Start.Start, Trace.logs_after}
 use Rattle.debug_session.specs.{Place.{Run as PlayedRun, sight_at}, Shown.bytes_shown}
-use Rattle.device_live.specs.{Life.{Life, events_in, lines_since, play_lived, with_happening, with_steps}, LiveLine.{LiveLine, Happens, Run, Registers, Memory}, Shown.{memory_text, registers_text}}
+use Rattle.device_live.specs.{Life.{Life, events_in, lines_since, play_lived, with_happening, with_steps}, LiveLine.{LiveLine, Happens, Run, Registers, Memory}, StateLines.{memory_text, registers_text}}
 
 -- the life behind a line, what `play` prints of the steps that were made for it, and its answer
 pub record Answer : Type 0 where

@@ -1,7 +1,7 @@
 -- What a device that lives has behind it: what it was told, and the steps that it made.
 use Rattle.std.specs.Prelude.{ℕ, zero, suc, ◌+◌, ◌++◌, List, [], Result, Ok, Err, nat_lt, if◌then◌else◌}
 use Rattle.device_types.specs.{Address.Bytes, declared.event.Event.Event}
-use Rattle.play_script.specs.{Grammar.{ScriptSoFar, no_lines, with_entry}, Script.{TimedEvent, events_of}}
+use Rattle.play_script.specs.{Grammar.{ScriptSoFar, no_lines, with_entry}, Script.events_of}
 use Rattle.text_scan.specs.{declared.fault_kind.FaultKind.{FaultKind, TheVariants.Order}}
 use Rattle.device_trace.specs.{Play.Play, Start.Start, Text.lines_of_step, Trace.play_of}
 

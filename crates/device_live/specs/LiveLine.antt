@@ -1,5 +1,5 @@
 -- What a line says to a device that lives.
-use Rattle.std.specs.Prelude.{ℕ, List, [], ◌∷◌, Result, Ok, Err, codes, if◌then◌else◌}
+use Rattle.std.specs.Prelude.{ℕ, List, Result, Ok, Err, codes, if◌then◌else◌}
 use Rattle.std.specs.Str.{bytes_eq}
 use Rattle.device_types.specs.declared.event.Event.{Event}
 use Rattle.play_script.specs.Grammar.{happening_of}

@@ -1,5 +1,5 @@
 -- What is put into a sink of the lines that a source gives to a device that lives.
-use Rattle.std.specs.Prelude.{◌≡◌, ◌++◌, ℕ, List, [], ◌∷◌}
+use Rattle.std.specs.Prelude.{◌≡◌, ◌++◌, ℕ, List, ◌∷◌}
 use Rattle.std.specs.declared.alloc.AllocError.{AllocError}
 use Rattle.outside_edge.specs.{Count.Rose, Sink.{Takes, TakesPrefix}}
 use Rattle.outside_edge.specs.declared.sink.Sink as sink

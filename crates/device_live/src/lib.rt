@@ -7,12 +7,12 @@
 
 mod law;
 mod line_fault;
+mod line_responder;
 mod live_line;
 mod living;
 mod playing;
-mod responding;
 mod serving;
-mod shown;
+mod state_lines;
 
 pub use law::{run_is_cut_anywhere, tells_its_play};
 pub use line_fault::LineFault;

@@ -9,7 +9,7 @@ ghost use Rattle.device_live.specs.{Answer.{answer_of, memory_line, registers_li
 use crate::line_fault::LineFault;
 use crate::live_line::{LiveLine, read_live_line};
 use crate::playing::play_and_print;
-use crate::shown::{print_memory, print_registers};
+use crate::state_lines::{print_memory, print_registers};
 use device_core::{Device, Held, Live};
 use device_types::TraceFlag;
 use hmac_core::Digest32;

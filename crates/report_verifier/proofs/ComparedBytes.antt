@@ -1,11 +1,11 @@
 -- What an accepted report is expected to be of, and the device's own, are bytes.
-use Rattle.std.proofs.Common.{◌≡◌, ◌<◌, ◌+◌, ◌-◌, ◌*◌, ◌/◌, ◌%◌, ◌++◌, ◌∙◌, ℕ, zero, suc, List, [], ◌∷◌, Bool, true, false, Option, Some, None, ap, refl, sym, arith}
+use Rattle.std.proofs.Common.{◌<◌, ◌+◌, ◌-◌, ◌*◌, ◌/◌, ◌%◌, ◌++◌, ℕ, zero, suc, List, [], ◌∷◌, Bool, true, false, Option, arith}
 use Rattle.std.specs.Prelude.{if◌then◌else◌, slice_index}
 use Rattle.std.specs.Int.{w32, to_le_bytes}
 use Rattle.std.proofs.lemmas.List.Elements.{All-append, All-cons, All-from_get_or, All-nil}
 use Rattle.device_types.specs.{declared.{bounds.Bounds.Bounds, version.Version.{Version, TheVariants.{One, Two}}}, Bounds.are_valid, Report.ReportFields}
-use Rattle.part_definitions.specs.{Attestation.bytes_of_words, Hmac.{inner_digest, outer_input}, Memory.bytes_from, Metadata.bounds_in, Region.{bounded_bytes, bytes_between, metadata_bytes, output_bytes, rest_bytes}}
-use Rattle.report_verifier.specs.{declared.expect.Expect.Expect, Collision.{AreBytes, GivesBytes}, Comparison.{expected_bytes, own_bytes}, Expectation.{count_bytes, expected_metadata, expected_rest, expected_token, first_metadata, image_code, report_output, request_metadata}}
+use Rattle.part_definitions.specs.{Attestation.bytes_of_words, Hmac.{inner_digest, outer_input}, Memory.bytes_from, Metadata.bounds_in, Region.{bytes_between, metadata_bytes, output_bytes, rest_bytes}}
+use Rattle.report_verifier.specs.{declared.expect.Expect.Expect, Collision.{AreBytes, GivesBytes}, Comparison.{expected_bytes, own_bytes}, Expectation.{count_bytes, expected_metadata, expected_rest, expected_token, version_one_metadata, image_code, report_output, request_metadata}}
 use Rattle.mem_map.specs.Image.{image_byte}
 use Rattle.word_arith.specs.Number.{bit_of}
 use Rattle.report_verifier.proofs.PairBytes.{IsByte}
@@ -101,7 +101,7 @@ metadata-bytes : (digest : List ℕ → List ℕ) (key : List ℕ) (expect : Exp
 metadata-bytes digest key expect report gives chal words =
     let bounds : Bounds = expect.bounds in
     let flag : ℕ = bit_of report.exec in
-    All-append IsByte (first_metadata expect report.exec)
+    All-append IsByte (version_one_metadata expect report.exec)
     (request_metadata expect.version digest key expect report.aux)
     (All-append IsByte expect.chal
     (bytes_of_words (bounds.er_min ∷ bounds.er_max ∷ bounds.or_min ∷ bounds.or_max ∷ flag ∷ []))

@@ -1,5 +1,5 @@
 -- The pair of two messages with one HMAC is of bytes.
-use Rattle.std.proofs.Common.{◌≡◌, ◌<◌, ◌-◌, ◌++◌, ℕ, List, Bool, true, false, map, length, replicate, arith}
+use Rattle.std.proofs.Common.{◌<◌, ◌-◌, ◌++◌, ℕ, List, Bool, true, false, length, replicate, arith}
 use Rattle.std.specs.Prelude.{nat_lt, bit_xor, if◌then◌else◌}
 use Rattle.std.specs.Str.{bytes_eq}
 use Rattle.std.proofs.lemmas.Nat.{xor_of_8}

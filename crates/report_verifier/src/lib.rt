@@ -3,7 +3,7 @@
 //! A verifier has the device's key, the image that the device shall run, and a policy: the bounds
 //! that a report shall name, the flag that it shall have, and the requests that were sent.
 //! [`verdict_of`] gives the first verdict that holds; a report is accepted exactly where it meets
-//! the policy and its MAC is the one that VRASED and APEX prescribe (USENIX Security 2019 and 2020).
+//! the policy and its MAC is the one that VRASED (USENIX Security 2019) and APEX (2020) prescribe.
 //! [`exhibit`] shows what it would take to be wrong: two unequal lists with equal digests.
 //!
 //! In version 1 a request is a challenge. In version 2 it carries a counter and a [`token`] too,

@@ -28,7 +28,8 @@ module _ (words : List ℕ) (start : Start) where
 
   released-earlier : (life later : Life) → GoesOn life later → IsReleased later → IsReleased life
   released-earlier life later goes released =
-      subst (λ (play : Play). (more : List ℕ) × (words ≡ released_words start play ++ more)) goes.play
+      subst (λ (play : Play). (more : List ℕ) × (words ≡ released_words start play ++ more))
+      goes.play
       (released_before words (run_of start later) later.steps life.steps goes.steps released)
 
   abbrev IsReleasedBehind : List (List ℕ) → Type 0

@@ -1,6 +1,6 @@
 -- Two runs in whose steps a device that lives tells the same.
 use Rattle.std.proofs.Common.{◌≡◌, ℕ, zero, suc, ◌≤◌, ◌<◌, List, refl, arith}
-use Rattle.device_trace.specs.{Logs.exec_of, Progress.{last_registers, next_pc_of}, Text.lines_of_step}
+use Rattle.device_trace.specs.{Progress.{last_registers, next_pc_of}, Text.lines_of_step}
 use Rattle.debug_session.specs.{Place.{Run, exec_at, logs_at, play_to, shown_at, sight_at}, Shown.{byte_and, bytes_shown}}
 use Rattle.session_laws.proofs.WithoutKey.{Released, byte-same, exec-same, next_pc-same, open_run, registers-same, released_before, step_lines-same}
 

@@ -5,7 +5,7 @@ use Rattle.device_types.specs.declared.event.Event.{Event}
 use Rattle.device_trace.specs.{Start.Start, Trace.{play_of, released_words}}
 use Rattle.key_isolation.specs.{Agreement.{ReleaseAlike, SameButKey}, Keyless.keyless}
 use Rattle.key_isolation.proofs.TwoKeys.{one_keyless}
-use Rattle.debug_link.specs.{Conversation.{Answer, Input, LONGEST_BODY, Talk, answer_to, talk_after_message, first_talk, talk_after_byte, talk_with_byte, talk_with_inputs, with_answer}, Link.{Message, Silence, Again, Damage, Whole, message_of}, declared.connection.Connection.TheVariants.Open}
+use Rattle.debug_link.specs.{Conversation.{Answer, Input, LONGEST_BODY, Talk, answer_to, talk_after_message, first_talk, with_mark, talk_with_byte, talk_with_inputs, with_answer}, Link.{Message, Silence, Again, Damage, Whole, message_of}, declared.connection.Connection.TheVariants.Open}
 use Rattle.debug_session.specs.{Place.{Run, view_of}, Session.{Session, first_session, reply}, Sight.View}
 use Rattle.session_laws.specs.{Gone.{furthest, gone_to, next_boundary, steps_gone}, DebuggerSecrecy.{TellsTheSame, run_of}}
 use Rattle.session_laws.proofs.{Boundaries.{boundary-behind, boundary-later}, SameAnswer.reply-same, SameSights.{IsSameTo, joined, turned}, WithoutKey.view-same}
@@ -59,11 +59,11 @@ module _ (last : ℕ) (left right : View) (same : IsSameTo last left right) wher
     unfolding talk_with_byte
     byte-same talk byte here before =
         talk-either talk.is_over talk
-        (talk_after_message (reply left interrupt) (talk_after_byte talk byte)
+        (talk_after_message (reply left interrupt) (with_mark talk byte)
         (message_of talk.link byte))
-        (talk_after_message (reply right interrupt) (talk_after_byte talk byte)
+        (talk_after_message (reply right interrupt) (with_mark talk byte)
         (message_of talk.link byte)) before
-        (answered-same (talk_after_byte talk byte) (message_of talk.link byte) here)
+        (answered-same (with_mark talk byte) (message_of talk.link byte) here)
 
   talk-same : (inputs : List (Input ℕ)) (talk : Talk Session) (so_many : ℕ)
       → next_boundary left (furthest left talk inputs) ≤ last

@@ -1,8 +1,8 @@
 -- A session stands where it may, whatever it is asked.
-use Rattle.std.proofs.Common.{◌≡◌, ◌<◌, ◌≤◌, ◌+◌, ◌⊎◌, inl, inr, ⊎_elim, ℕ, Bool, true, false, List, [], ◌∷◌, Option, Some, None, length, nat_lt, refl, ap, sym, subst, arith}
-use Rattle.std.specs.Prelude.{◌==◌, ◌&&◌, ◌||◌, if◌then◌else◌, max, min, nat_le}
-use Rattle.std.proofs.lemmas.Bool.{and_parts, eqb-true, leb-true, or_cases}
-use Rattle.debug_link.specs.{Conversation.{Answer, Input, LONGEST_BODY, Talk, talk_after_message, first_talk, talk_after_byte, talk_with_byte, talk_with_inputs}, Link.{Message, Silence, Again, Damage, Whole, message_of}, declared.connection.Connection.TheVariants.Open}
+use Rattle.std.proofs.Common.{◌≡◌, ◌<◌, ◌+◌, ◌⊎◌, inl, inr, ⊎_elim, ℕ, Bool, true, false, List, [], ◌∷◌, Option, Some, None, length, nat_lt, refl, ap, sym, subst, arith}
+use Rattle.std.specs.Prelude.{◌==◌, ◌&&◌, ◌||◌, if◌then◌else◌}
+use Rattle.std.proofs.lemmas.Bool.{and_parts, eqb-true, or_cases}
+use Rattle.debug_link.specs.{Conversation.{Answer, Input, LONGEST_BODY, Talk, talk_after_message, first_talk, with_mark, talk_with_byte, talk_with_inputs}, Link.{Message, Silence, Again, Damage, Whole, message_of}, declared.connection.Connection.TheVariants.Open}
 use Rattle.debug_session.specs.{Command.command_of, Request.most_steps, declared.{command.{Command.{Command, TheVariants.{Change, Go, Monitor}}, Going.Going, Way.{Way, TheVariants.{Ahead, Back}}}, request.Request.{Request, TheVariants.Until}, stop.Stop.TheVariants.{Begin, End, Interrupted}}, Stops.{Stops, with_change}, Cause.cause, Going.{Standing, interrupted, lies_between, seek_of, where_to}, Session.{Session, after_request, answer_of, first_session, reply, with_stops}, Sight.View}
 use Rattle.debug_session.proofs.Between.{between-is}
 use Rattle.session_laws.specs.{FirstStop.HasStopped, StepBack.{MayStandAt, session_after}}
@@ -143,9 +143,9 @@ module _ {Session Interrupt : Type 0} (Keeps : Session → Type 0)
     unfolding talk_with_byte
     byte-keeps interrupt talk byte kept =
         talk-either talk.is_over talk
-        (talk_after_message (replies interrupt) (talk_after_byte talk byte)
+        (talk_after_message (replies interrupt) (with_mark talk byte)
         (message_of talk.link byte)) kept
-        (answered-keeps interrupt (talk_after_byte talk byte) (message_of talk.link byte) kept)
+        (answered-keeps interrupt (with_mark talk byte) (message_of talk.link byte) kept)
 
     inputs-keep : (inputs : List (Input Interrupt)) (talk : Talk Session) → Keeps talk.session
         → Keeps (talk_with_inputs replies talk inputs).session

@@ -36,7 +36,12 @@ module _ {R : Type 0} (r : source.Ghosts R) where
   gave_none now = record { told = left_same (r.left now); count = omega arith }
 
   pub given_none : (now : R) → HasGiven r now now []
-  given_none now = record { gave = gave_none now; whole = All-nil (λ piece. 0 < length piece); few = omega arith }
+  given_none now =
+      record {
+        gave = gave_none now;
+        whole = All-nil (λ piece. 0 < length piece);
+        few = omega arith;
+      }
 
   -- a take that gave nothing
   gave_still : (first mid last : R) (bytes : List ℕ)
@@ -138,7 +143,8 @@ module _ {R T E Start O : Type 0} (r : source.Ghosts R)
           ends = (
             (
               (asked_more asked, omega (arith, so.count, some)),
-              rose_since (r.faults source) (r.faults source_now) (r.faults source_new) so.rises rose,
+              rose_since (r.faults source) (r.faults source_now) (r.faults source_new) so.rises
+                  rose,
             ),
             so.answered start begins,
           );

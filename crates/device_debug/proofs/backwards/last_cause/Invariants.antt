@@ -1,4 +1,4 @@
-use Rattle.std.proofs.Common.{◌≡◌, ◌≤◌, ◌<◌, ◌-◌, ℕ}
+use Rattle.std.proofs.Common.{◌≡◌, ◌-◌}
 use Rattle.debug_session.specs.Place.{Run}
 use Rattle.debug_walk.specs.{Copies.{IsBefore, IsBegun, TrackStandsFor}, Walk.{Walks, place_of}}
 use Rattle.device_debug.specs.Seek.{step_in}

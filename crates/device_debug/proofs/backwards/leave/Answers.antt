@@ -1,4 +1,4 @@
-use Rattle.std.proofs.Common.{◌≡◌, ℕ, true, refl, subst, sym}
+use Rattle.std.proofs.Common.{ℕ, true, refl, subst, sym}
 use Rattle.debug_walk.specs.Walk.{IsStretch, place_of}
 use Rattle.device_debug.proofs.Kept.{fresh-tells}
 use Rattle.device_debug.proofs.backwards.leave.Goals as goal

@@ -1,4 +1,4 @@
-use Rattle.std.proofs.Common.{◌≡◌, ◌≤◌, ◌<◌, ◌-◌, ◌+◌, ◌∙◌, ℕ, suc, refl, Some, None, Ok, Err, ap, subst, sym, arith}
+use Rattle.std.proofs.Common.{◌≡◌, ◌-◌, ◌∙◌, ℕ, suc, refl, Some, None, Ok, subst, sym, arith}
 use Rattle.debug_session.specs.{Request.most_steps, Cause.cause, Going.{first_stop, interrupted}, Place.view_of, declared.stop.Stop.TheVariants.{End, Interrupted}}
 use Rattle.debug_link.proofs.Interrupts.{none-came}
 use Rattle.debug_walk.specs.{Copies.TrackStandsFor, Walk.place_of}

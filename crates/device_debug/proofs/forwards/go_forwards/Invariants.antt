@@ -1,8 +1,9 @@
 use Rattle.std.proofs.Common.{◌≡◌, ◌≤◌, ◌-◌}
+use Rattle.word_arith.specs.Number.{bit_of}
 use Rattle.debug_session.specs.{Request.most_steps, Place.Run}
 use Rattle.debug_link.specs.Conversation.{HaveCome}
 use Rattle.debug_walk.specs.{Copies.TrackStandsFor, Walk.{Walks, place_of}}
-use Rattle.device_debug.specs.{Going.StandsAt, Interrupts.one_if, Seek.step_in}
+use Rattle.device_debug.specs.{Going.StandsAt, Seek.step_in}
 use Rattle.device_debug.proofs.Going.{IsGoing}
 use Rattle.device_debug.proofs.forwards.go_forwards.Given as goal
 
@@ -19,7 +20,7 @@ invariant-loop-passing g l =
           → StandsAt hash run l.from l.fn.walk
           → IsGoing hash g.W.Sink run l.stops (step_in l.seek) l.from l.fn.packets l.packets
           l.walk l.waiting;
-      came : HaveCome (one_if l.look.has_come) (g.I.Interrupts.left l.fn.interrupts)
+      came : HaveCome (bit_of l.look.has_come) (g.I.Interrupts.left l.fn.interrupts)
           (g.I.Interrupts.left l.interrupts);
     }
 

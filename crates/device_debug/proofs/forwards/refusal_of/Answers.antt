@@ -1,4 +1,4 @@
-use Rattle.std.proofs.Common.{◌≡◌, ◌∙◌, ap, sym}
+use Rattle.std.proofs.Common.{◌∙◌}
 use Rattle.debug_session.specs.Place.{play_to}
 use Rattle.debug_walk.specs.Walk.{place_of}
 use Rattle.device_debug.proofs.Boundaries.{refusal-was}

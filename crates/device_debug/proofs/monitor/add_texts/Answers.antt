@@ -1,5 +1,5 @@
-use Rattle.std.proofs.Common.{◌≡◌, ◌∙◌, ◌-◌, ◌+◌, ◌++◌, ◌<◌, ℕ, List, suc, ap, refl, subst, sym, arith}
-use Rattle.debug_session.specs.{Request.most_steps, Monitor.texts_from, Place.{Run, step_sight, view_of}, Sight.StepSight}
+use Rattle.std.proofs.Common.{◌≡◌, ◌∙◌, ◌-◌, ◌+◌, ◌++◌, ◌<◌, ℕ, List, suc, ap, subst, sym, arith}
+use Rattle.debug_session.specs.{Request.most_steps, Monitor.texts_from, Place.{Run, step_sight, view_of}}
 use Rattle.device_core.specs.Device.{LiveStandsFor}
 use Rattle.device_trace.specs.Trace.{play_of}
 use Rattle.debug_link.proofs.{AddedText.{PutsPrefix, adds_failed, prefix_none}, Faults.{counts_memory, counts_passed, counts_unwritten}}

@@ -1,8 +1,6 @@
-use Rattle.std.proofs.Common.{◌≡◌, ◌∙◌, ◌≤◌, ◌-◌, ◌++◌, ℕ, List, [], ap, refl, subst, sym, min, arith}
-use Rattle.std.proofs.Math.Nat.{min_comm, sub-add-min_cancel}
+use Rattle.std.proofs.Common.{◌≡◌, ◌∙◌, ◌-◌, ◌++◌, ℕ, [], ap, sym, min, arith}
 use Rattle.std.proofs.lemmas.List.{append-nil}
-use Rattle.debug_session.specs.{Request.most_steps, declared.request.Request.TheVariants.{Flags, Steps}, Monitor.{flags_text, last_lines, request_text, texts_from}, Place.view_of, Sight.Sight}
-use Rattle.debug_link.specs.{Console.console, Writing.PutsPackets}
+use Rattle.debug_session.specs.{declared.request.Request.TheVariants.{Flags, Steps}, Monitor.{flags_text, last_lines, request_text, texts_from}, Place.view_of, Sight.Sight}
 use Rattle.debug_link.proofs.Bodies.{put_none}
 use Rattle.debug_session.proofs.Views.{view-at}
 use Rattle.debug_walk.specs.Walk.{place_of}

@@ -1,6 +1,4 @@
-use Rattle.std.proofs.Common.{◌≡◌, ◌≤◌, ◌∙◌, ℕ, List, ap, arith, refl}
-use Rattle.outside_edge.specs.Buffer.{Buffer}
-use Rattle.device_live.specs.declared.living.Living.{Living}
+use Rattle.std.proofs.Common.{◌≡◌, ◌∙◌, arith, refl}
 use Rattle.device_live.proofs.Served.{all-served, begins-told, pair-parts}
 use Rattle.device_live.proofs.serving.serve_lines.Goals as goal
 

@@ -1,5 +1,4 @@
-use Rattle.std.proofs.Common.{◌≡◌, ◌<◌, ◌≤◌, arith}
-use Rattle.std.proofs.lemmas.Bool.Decides.{nat_tests}
+use Rattle.std.proofs.Common.{◌≤◌, arith}
 use Rattle.device_live.specs.Life.{Life}
 use Rattle.device_live.proofs.Answered.{run-cut, run-late, run-told, run-unstanding}
 use Rattle.device_live.proofs.living.Living.run.Goals as goal

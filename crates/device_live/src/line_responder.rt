@@ -86,7 +86,7 @@ fn halt_on_fault(put: Result<(), Failed>) -> Result<(), Halt<AllocError>>
 
 impl<D: Digest32, G: TraceFlag, W: Sink> LineResponder<BufferedSink<W>> for Living<D, G> {
     ghost use Rattle.std.specs.Prelude.{◌≤◌};
-    ghost use Rattle.device_live.specs.Responding.{LiveStart, live_promise};
+    ghost use Rattle.device_live.specs.LineResponder.{LiveStart, live_promise};
 
     type Own = AllocError;
 

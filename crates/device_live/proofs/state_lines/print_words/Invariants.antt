@@ -1,6 +1,6 @@
 use Rattle.std.proofs.Common.{◌≡◌, ◌+◌, ◌*◌, codes, drop, length, map}
 use Rattle.printed_lines.specs.Line.{with_pieces, word_digits}
-use Rattle.device_live.proofs.shown.print_words.Given as goal
+use Rattle.device_live.proofs.state_lines.print_words.Given as goal
 
 abbrev pub invariant-loop-register : goal.invariant-loop-register
 invariant-loop-register g l = record {

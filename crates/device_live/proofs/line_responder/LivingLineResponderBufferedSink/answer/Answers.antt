@@ -1,6 +1,5 @@
-use Rattle.std.proofs.Common.{arith}
 use Rattle.device_live.proofs.Told.{line-tells}
-use Rattle.device_live.proofs.responding.LivingLineResponderBufferedSink.answer.Goals as goal
+use Rattle.device_live.proofs.line_responder.LivingLineResponderBufferedSink.answer.Goals as goal
 
 pub returns-clause-answers : goal.returns-clause-answers
 returns-clause-answers g c = λ start earlier bytes told line.

@@ -1,5 +1,5 @@
 use Rattle.device_live.proofs.Told.{settled}
-use Rattle.device_live.proofs.responding.LivingLineResponderBufferedSink.settle.Goals as goal
+use Rattle.device_live.proofs.line_responder.LivingLineResponderBufferedSink.settle.Goals as goal
 
 pub returns-clause-settles : goal.returns-clause-settles
 returns-clause-settles g c = λ start lines told.

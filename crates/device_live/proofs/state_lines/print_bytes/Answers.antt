@@ -5,9 +5,8 @@ use Rattle.hex.specs.Hex.{encode_lower}
 use Rattle.outside_edge.specs.Sink.{Puts, TakesPrefix}
 use Rattle.outside_edge.proofs.SinkLemmas.{prefix_of_more, puts-failed, puts_after}
 use Rattle.printed_lines.specs.Line.{word_digits}
-use Rattle.device_live.specs.Shown.{memory_text}
 use Rattle.device_live.proofs.MemoryParts.{memory-parts, memory_head}
-use Rattle.device_live.proofs.shown.print_bytes.Goals as goal
+use Rattle.device_live.proofs.state_lines.print_bytes.Goals as goal
 
 pub returns-in_err-print_digits-clause-puts : goal.returns-in_err-print_digits-clause-puts
 returns-in_err-print_digits-clause-puts g c =

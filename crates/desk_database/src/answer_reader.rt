@@ -1,6 +1,6 @@
 ghost use Rattle.std.specs.Prelude.{◌≡◌, IfSome, IsTrue};
 ghost use Rattle.text_scan.specs.Reader.{ReadsOn};
-ghost use Rattle.desk_memory.specs.{AnswerRead.{answer_of, answer_with}, AnswerText.answer_text, SizedEntry.is_short_answer, declared.answer.Answer.Answer as Said};
+ghost use Rattle.desk_memory.specs.{AnswerReader.{answer_of, answer_with}, AnswerText.answer_text, SizedEntry.is_short_answer, declared.answer.Answer.Answer as Said};
 
 use crate::printed_answer::answer_text;
 use desk_memory::Answer;
@@ -34,7 +34,7 @@ fn answer_like(text: &[u8]) -> Option<Answer>
 }
 
 /// The answer that the words say which come next: its verb, and what comes of it.
-#[tactic(auto, unfolding(desk_memory::specs::AnswerRead::answer_of))]
+#[tactic(auto, unfolding(desk_memory::specs::AnswerReader::answer_of))]
 pub fn next_answer(words: &mut Words<'_>) -> Result<Answer, FaultKind>
     ensures { ReadsOn result words.new (answer_of words.old) }
 {
@@ -42,7 +42,7 @@ pub fn next_answer(words: &mut Words<'_>) -> Result<Answer, FaultKind>
 }
 
 // What an answer of this verb says.
-#[tactic(auto, unfolding(desk_memory::specs::AnswerRead::answer_with))]
+#[tactic(auto, unfolding(desk_memory::specs::AnswerReader::answer_with))]
 fn answer_of_verb(verb: &[u8], words: &mut Words<'_>) -> Result<Answer, FaultKind>
     ensures { ReadsOn result words.new (answer_with verb.now words.old) }
 {

@@ -1,6 +1,5 @@
-use Rattle.std.proofs.Common.{sym}
 use Rattle.device_live.specs.Life.{play_lived}
-use Rattle.device_live.proofs.shown.print_registers.Goals as goal
+use Rattle.device_live.proofs.state_lines.print_registers.Goals as goal
 
 pub returns-clause-puts : goal.returns-clause-puts
 returns-clause-puts g c = λ start life stands.
