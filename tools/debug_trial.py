@@ -31,6 +31,22 @@ BODIES = [UNTIL, b"?", b"g", b"s", b"S05", b"bs", b"vCont;s:1", b"vCont;rc000,c0
           b"m" + b"0" * (LONGEST_BODY - 1), b"m" + b"0" * LONGEST_BODY]
 NOISE = b"$#-+}*\x030af\xff"
 
+# What is put for bytes that are not all packets: noise, a reply that is asked for again, packets
+# that are damaged, cut off, closed or too long, and what comes behind the end.
+PUT_FOR = {
+    b"": b"",
+    b"-": b"",
+    b"+++junk\r\n$?#3f": b"+$T05#b9",
+    b"$?#3f--+$?#00-": b"+$T05#b9$T05#b9$T05#b9-$T05#b9",
+    b"$?#3g$?#3F\x03$?#3f\x03\x03": b"-+$T05#b9+$T05#b9",
+    b"$mc000,$mc000,4#c0$?#3f": b"+$b2404100#bd+$T05#b9",
+    b"$g#6$?#3f": b"+$T05#b9",
+    b"$}]*~\xff\x00#81": b"+$#00",
+    b"$?#3f$bs#d": b"+$T05#b9",
+    b"$?#3f$D#44$?#3f": b"+$T05#b9+$OK#9a",
+    b"$m" + b"0" * LONGEST_BODY + b"#6d": b"+$#00",
+}
+
 
 class Debugger:
     """A program of these words, and the bytes to and from it."""
@@ -179,7 +195,8 @@ def debug_files(trial, files):
     input and output that fail.
     """
     words, taken = ("debug", *files.letter), packet(b"?")
-    trial.prints(b"+" + packet(b"T05"), *words, input=taken)
+    for given, put in PUT_FOR.items():
+        trial.prints(put, *words, input=given)
     for wrong in (words[:1], words[:-1], (*words, "5")):
         trial.refuses(2, *wrong, input=taken)
     image, script, key = files.letter

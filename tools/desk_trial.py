@@ -15,8 +15,8 @@ import desk_model
 from memory_trial import BY_STRACE, QUICK, Run, try_memory
 from memory_ways import WAYS, try_way
 from readers import READERS
-from reference import (ABSENT, COMMANDS, DAMAGED, ELSEWHERE, FOUNDED, NO_DEVICE, OWN_DESK, TAKEN,
-                       UNFOUNDED, ending)
+from reference import (ABSENT, AS_OFTEN, COMMANDS, DAMAGED, ELSEWHERE, FOUNDED, NO_DEVICE,
+                       OWN_DESK, TAKEN, UNFOUNDED, ending)
 from sample_files import EXAMPLES, Example, database, read, remove_memory
 from trial import limiting
 
@@ -254,6 +254,16 @@ def desk_moves(trial, files):
     runs.memory = south
     runs.model.start(desk_model.adopted((), b"south", text))
     runs.serve(b"ask a 3\ngive a 4 " + files.desk_report(2) + b"ask A_9 2\n")
+
+    # (an earlier move of a device that went on, a key under another name, the last move)
+    trial.expect(0, "", "move", south, "a", "north")
+    trial.finds("moved", "3: Order", "adopt", moved, south)
+    other = files.add("states-z", read(files["states"]).replace(b" a ", b" z "))
+    trial.prints(b"", "remember", other, files["memory-z"], "south")
+    trial.finds("moved", "3: Twice", "adopt", moved, files["memory-z"])
+    last = files.add("states-last", read(other).replace(b"moves 0", b"moves 4294967295"))
+    trial.prints(b"", "remember", last, files["memory-last"], "north")
+    trial.expect(16, AS_OFTEN, "move", files["memory-last"], "z", "south")
 
 
 def desk_words(trial, files):
