@@ -6,11 +6,10 @@ ghost use Rattle.std.specs.Prelude.{◌≤◌};
 use crate::inputs::{arguments, named_files};
 use debug_cli::run::run;
 use device_debug::Interrupts;
-use input_files::{BadFile, Status};
+use input_files::Status;
 use outside_edge::{MemShelf, MemSink, MemSource, NeverFailShelf, NeverFailSink, NeverFailSource};
 use std::alloc::{AllocError, Global};
 use std::test::Fail;
-use text_scan::{FaultAt, FaultKind};
 
 // It sends the letter A and then jumps to itself.
 const IMAGE: &str = ":08C00000B24041007600FF3F51\n:02FFFE0000C041\n:00000001FF\n";
@@ -73,12 +72,11 @@ impl Interrupts for AtLook {
     }
 }
 
-// What is answered to these words and put, with this script and this input, of which so many bytes
+// What is answered to these words and put, with this input, of which so many bytes
 // come in one call, where the calls of source and sink of these numbers fail.
 fn served(
     alloc: Global,
     words: &[&str],
-    script: &str,
     input: &[u8],
     most: usize,
     unread: &[u64],
@@ -88,23 +86,21 @@ fn served(
 {
     let source = MemSource::new(input.to_vec(alloc)?, most, unread.to_vec(alloc)?);
     let sink = MemSink::new(Vec::new(alloc), 1_000, 64, unwritten.to_vec(alloc)?)?;
-    served_over(alloc, words, script, source, sink, AtLook(0))
+    served_over(alloc, words, source, sink, AtLook(0))
 }
 
 // Likewise over this source and this sink, and with this interrupt.
 fn served_over(
     alloc: Global,
     words: &[&str],
-    script: &str,
     mut source: MemSource,
     sink: MemSink,
     interrupt: AtLook,
 ) -> Result<(Status, Vec<u8>), AllocError> {
     let files = [
         ("image", IMAGE.as_bytes()),
-        ("script", script.as_bytes()),
+        ("script", b"".as_slice()),
         ("key", KEY.as_bytes()),
-        ("none", b"".as_slice()),
     ];
     let words = arguments(alloc, words)?;
     let mut shelf = MemShelf::new(named_files(alloc, &files)?, 4_096, Vec::new(alloc));
@@ -115,7 +111,7 @@ fn served_over(
 #[test]
 fn packets_are_answered(rt: HostRuntime) -> Result<(), Fail> {
     for most in [1, 7, 4_096] {
-        let (status, text) = served(rt.alloc(), &WORDS, "", PACKETS, most, &[], &[])?;
+        let (status, text) = served(rt.alloc(), &WORDS, PACKETS, most, &[], &[])?;
         assert_eq!(rt; status, Status::Done);
         assert_eq!(rt; text.as_slice(), ANSWERS);
     }
@@ -128,7 +124,7 @@ fn an_interrupt_ends_a_way(rt: HostRuntime) -> Result<(), Fail> {
     for (input, answers) in [(WAY_AHEAD, WAY_AHEAD_ANSWERS), (WAY_BACK, WAY_BACK_ANSWERS)] {
         let source = MemSource::new(input.to_vec(alloc)?, 4_096, Vec::new(alloc));
         let sink = MemSink::new(Vec::new(alloc), 1_000, 64, Vec::new(alloc))?;
-        let (status, text) = served_over(alloc, &WORDS, "", source, sink, AtLook(1))?;
+        let (status, text) = served_over(alloc, &WORDS, source, sink, AtLook(1))?;
         assert_eq!(rt; status, Status::Done);
         assert_eq!(rt; text.as_slice(), answers);
     }
@@ -138,7 +134,7 @@ fn an_interrupt_ends_a_way(rt: HostRuntime) -> Result<(), Fail> {
 #[test]
 fn lines_are_answered(rt: HostRuntime) -> Result<(), Fail> {
     for most in [1, 7, 4_096] {
-        let (status, text) = served(rt.alloc(), &LIVE_WORDS, "", LINES, most, &[], &[])?;
+        let (status, text) = served(rt.alloc(), &LIVE_WORDS, LINES, most, &[], &[])?;
         assert_eq!(rt; status, Status::Done);
         assert_eq!(rt; text.as_slice(), LINE_ANSWERS);
     }
@@ -147,46 +143,12 @@ fn lines_are_answered(rt: HostRuntime) -> Result<(), Fail> {
 
 #[test]
 fn a_prefix_is_put_before_a_fault(rt: HostRuntime) -> Result<(), Fail> {
-    let (status, text) = served(rt.alloc(), &WORDS, "", PACKETS, 9, &[2], &[])?;
+    let (status, text) = served(rt.alloc(), &WORDS, PACKETS, 9, &[2], &[])?;
     assert_eq!(rt; status, Status::ReadFault);
     assert_eq!(rt; text.as_slice(), &ANSWERS[..133]);
-    let (status, text) = served(rt.alloc(), &WORDS, "", PACKETS, 4_096, &[], &[2])?;
+    let (status, text) = served(rt.alloc(), &WORDS, PACKETS, 4_096, &[], &[2])?;
     assert_eq!(rt; status, Status::WriteFault);
     assert_eq!(rt; text.as_slice(), b"+".as_slice());
-    Ok(())
-}
-
-#[test]
-fn words_and_files_are_refused(rt: HostRuntime) -> Result<(), Fail> {
-    let bad_key = FaultAt {
-        line: 1,
-        kind: FaultKind::Missing,
-    };
-    let bad_script = FaultAt {
-        line: 1,
-        kind: FaultKind::Word,
-    };
-    let rows: [(&[&str], Status); 8] = [
-        (&[], Status::Words),
-        (&["Debug", "image", "script", "key"], Status::Words),
-        (&["debug", "image", "script", "key", "5"], Status::Words),
-        (
-            &["debug", "other", "script", "none"],
-            Status::Bad(BadFile::Key(bad_key)),
-        ),
-        (&["debug", "other", "script", "key"], Status::Absent),
-        (&["live", "image", "script", "key"], Status::Words),
-        (
-            &["live", "other", "none"],
-            Status::Bad(BadFile::Key(bad_key)),
-        ),
-        (&WORDS, Status::Bad(BadFile::Script(bad_script))),
-    ];
-    for &(words, wanted) in &rows {
-        let (status, text) = served(rt.alloc(), words, "at 5 rest\n", PACKETS, 4_096, &[], &[])?;
-        assert_eq!(rt; status, wanted);
-        assert!(rt; text.is_empty());
-    }
     Ok(())
 }
 

@@ -4,8 +4,6 @@
 mod desk_row;
 mod mem_files;
 mod memory_row;
-mod move_row;
-mod states_row;
 
 ghost use Rattle.std.specs.Prelude.{◌≤◌};
 
@@ -21,11 +19,6 @@ use std::alloc::{AllocError, Global};
 pub const DEVICE_A: &str =
     "device a 000102030405060708090a0b0c0d0e0f101112131415161718191a1b1c1d1e1f\
 202122232425262728292a2b2c2d2e2f303132333435363738393a3b3c3d3e3f\n";
-
-/// A device with a key of 64 bytes ff.
-pub const DEVICE_B: &str =
-    "device b ffffffffffffffffffffffffffffffffffffffffffffffffffffffffffffffff\
-ffffffffffffffffffffffffffffffffffffffffffffffffffffffffffffffff\n";
 
 /// The number of a call that does not come.
 pub const NEVER: u64 = 0;

@@ -1,6 +1,6 @@
 //! Tests of each program's `run`, over files, byte sinks, sources and memories in memory: each
-//! command once, where one call of the outside fails and where none can; a second flag and a digest
-//! that no program has; images at the edges of the rules; and what a load draws.
+//! command once, where one call of the outside fails and where none can; and a second flag and a
+//! digest that no program has.
 //!
 //! The contracts say which bytes are put, and `tools/check-program` tries the proved programs on
 //! the cases of `conformance/` and beside models in another language. What stands here is what no

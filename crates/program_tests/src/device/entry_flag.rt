@@ -2,7 +2,6 @@
 
 use crate::attested_device::VECTOR_AND_END;
 use crate::device::KEY;
-use crate::device::edge_image::REQUEST;
 use crate::inputs::text_of;
 use device_core::power_on;
 use device_play::{LineWatcher, play_before};
@@ -55,6 +54,10 @@ impl TraceFlag for EntryFlag {
 
 // Calls the ROM, and sends the byte at 026A twice.
 const SENDER: &str = ":16C0000031400022B01200A0D2426A027600D2426A027600FF3F0B\n";
+
+// The counter 1 and the token of a challenge of zeros, by HMAC of Python's library, as a record.
+const REQUEST: &str =
+    ":24026C0001000000BDC9E628DF034A9622B990040EBFEF509CC4202A94FBEFDB4C665EC913CAA5E955\n";
 
 // The MAC is from another program (HMAC of Python's library).
 const TEXT: &[u8] = b"report2 131 exec 0 aux 1 count 1 \

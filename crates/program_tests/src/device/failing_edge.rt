@@ -1,9 +1,7 @@
-//! Each command over a shelf and a sink that fail in one call, over those that never fail, and over
-//! the largest report file.
+//! Each command over a shelf and a sink that fail in one call, and over those that never fail.
 
 use crate::attested_device::{EXEC_REGIONS, REQUESTED_IMAGE, image_of};
 use crate::device::letter_wave::LETTER_A_WAVE;
-use crate::device::request_row::{REPORT, REQUEST};
 use crate::device::{ASKED, KEY, LETTER_A, LETTER_A_TEXT};
 use crate::inputs::{named_files, text_of};
 use device_cli::run::run;
@@ -13,6 +11,17 @@ use line_buffer::LineBuffer;
 use outside_edge::{MemShelf, MemSink, NeverFailShelf, NeverFailSink};
 use std::alloc::{AllocError, Global};
 use std::test::Fail;
+
+// A challenge, the bounds, the counter 1, and the request's token.
+const REQUEST: &str = "at 0 rx 000102030405060708090a0b0c0d0e0f101112131415161718191a1b1c1d1e1f\
+40c046c000030003000000000100000051f31fb98405936d5493a5fec2a264d0\n\
+at 0 p1 1234\n\
+at 400 rx df1c3115ed86d8405e886d527d5cd5a5\n";
+
+const REPORT: &str = "report2 1189 exec 1 aux 1 count 1 \
+chal 000102030405060708090a0b0c0d0e0f101112131415161718191a1b1c1d1e1f \
+er c040 c046 or 0300 0300 data 3412 \
+mac 0a6cb1d8de6cda256d7ef098455278d3e87e89901f1f2e84d600968408c2b35d\n";
 
 const SOURCE: &[u8] =
     b".org 0xC000\nstart: mov #0x41,&0x76\nstop: jmp stop\n.org 0xFFFE\n.word start\n";
@@ -51,9 +60,6 @@ const POLICY: &[u8] = b"er C040 C046\nor 0300 0300\n\
      chal 000102030405060708090a0b0c0d0e0f101112131415161718191a1b1c1d1e1f\n";
 
 const VERDICTS: &[u8] = b"verdict 1 accept\nverdict 2 no-challenge\n";
-
-// How many bytes a report file has at most.
-const MOST: usize = 1_048_576;
 
 // The number of a call that does not come.
 const NEVER: u64 = 0;
@@ -95,11 +101,6 @@ impl Sample {
     }
 
     fn files(&self) -> [(&str, &[u8]); 11] {
-        self.files_with(&self.reports)
-    }
-
-    // The files, with these reports.
-    fn files_with<'a>(&'a self, reports: &'a [u8]) -> [(&'a str, &'a [u8]); 11] {
         [
             ("letter", LETTER_A),
             ("silence", b""),
@@ -109,7 +110,7 @@ impl Sample {
             ("script", REQUEST.as_bytes()),
             ("policy", POLICY),
             ("asked", &self.asked),
-            ("reports", reports),
+            ("reports", &self.reports),
             ("source", SOURCE),
             ("trace", LETTER_A_TRACE.as_bytes()),
         ]
@@ -311,50 +312,6 @@ fn over_those_that_never_fail_no_fault_is_answered(rt: HostRuntime) -> Result<()
             ReadFault | WriteFault => unreachable!(),
             status => assert_eq!(rt; status, row.status, "{}", row.words),
         }
-    }
-    Ok(())
-}
-
-// The largest report file: lines of one report, and empty lines.
-fn many_reports(alloc: Global) -> Result<Vec<u8>, AllocError> {
-    let mut reports = Vec::new(alloc);
-    for _ in 0..MOST / KEPT_REPORT.len() {
-        reports.extend_from_slice(KEPT_REPORT.as_bytes())?;
-    }
-    for _ in reports.len()..MOST {
-        reports.push(b'\n')?;
-    }
-    Ok(reports)
-}
-
-// Its lines are 193 bytes, so there are 5,433, and one challenge.
-fn many_verdicts(alloc: Global) -> Result<Vec<u8>, AllocError> {
-    let mut verdicts = b"verdict 1 accept\n".to_vec(alloc)?;
-    for number in 2..5434 {
-        let verdict = format!(in alloc; "verdict {number} no-challenge\n")?;
-        verdicts.extend_from_slice(verdict.as_bytes())?;
-    }
-    Ok(verdicts)
-}
-
-#[test]
-fn faults_come_late_in_the_largest_report_file(rt: HostRuntime) -> Result<(), Fail> {
-    let alloc = rt.alloc();
-    let sample = Sample::new(alloc)?;
-    let reports = many_reports(alloc)?;
-    let files = sample.files_with(&reports);
-    let verdicts = many_verdicts(alloc)?;
-    let prefix = verdicts.get(..70_000).unwrap_or(b"");
-    let rows: [(u64, u64, Status, &[u8]); 3] = [
-        (NEVER, NEVER, Rejected, &verdicts),
-        (10_000, NEVER, ReadFault, b""),
-        (NEVER, 70_001, WriteFault, prefix),
-    ];
-    for &(failing_read, failing_put, answer, text) in &rows {
-        let words = "verify image policy key reports";
-        let (status, output) = run_failing(alloc, words, &files, failing_read, failing_put)?;
-        assert_eq!(rt; status, answer);
-        assert!(rt; output.as_slice() == text, "{answer}");
     }
     Ok(())
 }
