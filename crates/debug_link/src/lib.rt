@@ -26,6 +26,3 @@ pub use held_body::LONGEST_BODY;
 pub use packet_writer::PacketWriter;
 pub use serving::serve;
 pub use talk_end::TalkEnd;
-
-#[cfg(test)]
-mod tests;

@@ -50,6 +50,3 @@ pub use std_sink::StdSink;
 pub use std_source::StdSource;
 pub use system_files::{SystemFile, SystemFiles};
 pub use whole_file::read_whole;
-
-#[cfg(test)]
-mod tests;

@@ -1,7 +1,7 @@
 //! Tables for the parts and the monitors: vectors of the MSP430x1xx Family User's Guide (SLAU049),
 //! of FIPS 180-4 and RFC 4231, and of the tables in `docs/`, each with a right answer that a
 //! misreading of its rule would miss. The monitors are proposed steps of every kind at every edge
-//! of the regions.
+//! of the regions, and what stands between the program and the system meets every error.
 //!
 //! The contracts say that code and definitions agree. What stands here says that both are read as
 //! they are meant: a row fails also where code and definition are changed together.
@@ -27,6 +27,8 @@ mod key_rule;
 mod mac;
 #[cfg(test)]
 mod memory;
+#[cfg(test)]
+mod outside;
 #[cfg(test)]
 mod pins;
 #[cfg(test)]

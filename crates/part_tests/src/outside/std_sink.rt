@@ -1,7 +1,7 @@
 //! Writers as sinks.
 
-use crate::tests::error_of;
-use crate::{Failed, Sink, StdSink, put_all};
+use crate::outside::error_of;
+use outside_edge::{Failed, Sink, StdSink};
 use std::io;
 use std::io::Write;
 
@@ -10,18 +10,16 @@ use std::io::Write;
 fn a_writer_takes_bytes_until_it_takes_nothing_of_a_piece(rt: HostRuntime) {
     let mut room = *b"..........";
     let mut sink = StdSink::new(&mut room[..7]);
-    assert_eq!(rt; sink.put(b"0123"), Ok(4));
-    assert_eq!(rt; sink.put(b"45678"), Ok(3));
-    assert_eq!(rt; sink.put(b""), Ok(0));
-    assert_eq!(rt; sink.put(b"7"), Err(Failed));
+    for &(piece, taken) in &[
+        ("0123", Ok(4)),
+        ("45678", Ok(3)),
+        ("", Ok(0)),
+        ("7", Err(Failed)),
+    ] {
+        assert_eq!(rt; sink.put(piece.as_bytes()), taken, "{piece}");
+    }
     drop(sink);
     assert_eq!(rt; &room, b"0123456...");
-}
-
-#[test]
-fn standard_output_takes_bytes(rt: HostRuntime) {
-    let mut output = StdSink::new(io::writer(&rt));
-    assert_eq!(rt; put_all(&mut output, b"written\n"), Ok(()));
 }
 
 // A writer that fails with the error of this number.

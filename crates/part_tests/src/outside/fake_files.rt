@@ -2,8 +2,8 @@
 
 ghost use Rattle.std.specs.Prelude.{None};
 
-use crate::tests::error_of;
-use crate::{FileOpener, SystemFile};
+use crate::outside::error_of;
+use outside_edge::{FileOpener, SystemFile};
 use std::io;
 use std::io::{Error, ErrorKind, Read, Seek, SeekFrom};
 

@@ -1,9 +1,7 @@
-//! Files that are opened, of the file system and fakes that fail in every way.
+//! Files that are opened, and fail in every way.
 
-use crate::tests::fake_files::{FakeFile, FakeFiles, Opening};
-use crate::tests::one_file;
-use crate::tests::told_files::ToldFiles;
-use crate::{FileFault, FileOpener, FileShelf, Shelf, ShelfError, SystemFiles, read_whole};
+use crate::outside::fake_files::{FakeFile, FakeFiles, Opening};
+use outside_edge::{FileFault, FileOpener, FileShelf, Shelf, ShelfError, read_whole};
 use std::test::Fail;
 
 // A read of a piece of that length, of at most eight bytes: a file's name, a place, and the answer.
@@ -41,33 +39,6 @@ fn opening<'a>(name: &'a str, file: FakeFile<'a>) -> Opening<'a> {
         name,
         file: Ok(file),
     }
-}
-
-#[test]
-fn files_of_the_file_system_are_read(rt: HostRuntime) -> Result<(), Fail> {
-    let file = "outside_edge_test_file";
-    let mut bytes = [b'a'; 5_000];
-    bytes[4_096..].fill(b'b');
-    std::fs::write(&rt, file, bytes.as_slice())?;
-    let mut shelf = FileShelf::new(SystemFiles::new(&rt));
-    assert!(rt; read_whole(rt.alloc(), &mut shelf, file, 5_000)?.as_slice() == bytes.as_slice());
-    let long = [b'n'; 4_096];
-    let rows: [Row<'_>; 10] = [
-        (file, 4_095, 5, Ok(b"abbbb")),
-        (file, 0, 5, Ok(b"aaaaa")),
-        (file, 4_998, 5, Ok(b"bb")),
-        (file, 5_000, 5, Ok(b"")),
-        (file, 6_000, 5, Ok(b"")),
-        ("outside_edge_no_file", 0, 5, Err(ShelfError::Absent)),
-        // a folder, also behind its first piece, and a path through a file
-        (".", 0, 5, Err(ShelfError::Failed)),
-        (".", 4_096, 5, Err(ShelfError::Failed)),
-        ("outside_edge_test_file/x", 0, 5, Err(ShelfError::Failed)),
-        (std::str::from_utf8(&long)?, 0, 5, Err(ShelfError::Failed)),
-    ];
-    assert_eq!(rt; first_wrong(&mut shelf, &rows), None);
-    std::fs::remove_file(&rt, file)?;
-    Ok(())
 }
 
 #[test]
@@ -194,20 +165,4 @@ fn a_name_is_passed_as_it_is(rt: HostRuntime) {
         ("lo", 0, 8, Ok(b"d")),
     ];
     assert_eq!(rt; first_wrong_of(&openings, &rows), None);
-}
-
-// Of files that their opener tells, so that each piece is what the shelf's clauses say.
-#[test]
-fn told_files_are_told_by_the_shelf(rt: HostRuntime) -> Result<(), Fail> {
-    let files = one_file(rt.alloc(), "log", b"abcdefghij")?;
-    let mut shelf = FileShelf::new(ToldFiles::new(&files, 3));
-    let rows: [Row<'_>; 5] = [
-        ("log", 0, 8, Ok(b"abc")),
-        ("log", 9, 8, Ok(b"j")),
-        ("key", 0, 8, Err(ShelfError::Absent)),
-        ("log", 11, 8, Ok(b"")),
-        ("log", 1, 8, Ok(b"bcd")),
-    ];
-    assert_eq!(rt; first_wrong(&mut shelf, &rows), None);
-    Ok(())
 }

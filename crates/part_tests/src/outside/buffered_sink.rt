@@ -1,6 +1,6 @@
 //! Output that goes out in pieces.
 
-use crate::{BufferedSink, Failed, MemSink, put_all};
+use outside_edge::{BufferedSink, Failed, MemSink, put_all};
 use std::test::Fail;
 
 // The sink takes all of a piece, and its third call fails. The first two are made where the buffer
