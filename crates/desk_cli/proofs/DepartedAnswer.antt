@@ -7,7 +7,7 @@ use Rattle.outside_edge.specs.declared.sink.Sink as sink
 use Rattle.desk_memory.specs.declared.memory.Memory as memory
 use Rattle.desk_memory.specs.{AnswerReader.most_number, Entry.{Entry, last_in, with_entry}, Moving.{with_departure, gone_to, is_gone_to, is_here, lines_at, moved_lines}}
 use Rattle.input_files.specs.{declared.{status.Status.Status, unfit.Unfit.Unfit}}
-use Rattle.desk_cli.specs.{Move.{Departs, KeepsAndPuts, MoveNames, Stays, departure, home_behind}, States.PutsText, StateText.states_text}
+use Rattle.desk_cli.specs.{Move.{Departs, KeepsAndPuts, MoveNames, Stays, departure, home_behind}, StateText.states_text}
 use Rattle.desk_cli.proofs.DepartedLines.{departed-lines}
 
 -- it stays
@@ -18,24 +18,6 @@ pub stays : {M W : Type 0} (m : memory.Ghosts M) (w : sink.Ghosts W) (opened : M
 stays m w opened old names entries (Err unfit) status is = (is, refl, refl)
 stays m w opened old names entries (Ok None) status is = (refl, inl (is, refl))
 stays m w opened old names entries (Ok (Some gone)) status is = inl (is, refl, refl)
-
--- it is gone already
-pub is-gone : {M W : Type 0} (m : memory.Ghosts M) (w : sink.Ghosts W) (opened : M) (old new : W)
-    (names : MoveNames) (entries lines : List Entry) (departs : Result (Option Entry) Unfit)
-    (found : Option Entry) (status : Status)
-    → departs ≡ Ok found → found ≡ None
-    → lines ≡ lines_at (home_behind found (last_in entries names.device)) names.device entries
-    → PutsText w old new (states_text lines) status
-    → Departs m w opened opened old new names entries departs status
-is-gone m w opened old new names entries lines departs found status is none are puts =
-    let known : departs ≡ Ok None = is ∙ ap (λ (one : Option Entry). Ok one) none in
-    let all : lines ≡ moved_lines names.device entries =
-    are ∙ ap (λ (one : Option Entry).
-    lines_at (home_behind one (last_in entries names.device)) names.device entries) none in
-    rw known (
-      refl,
-      inr (subst (λ (text : List Entry). PutsText w old new (states_text text) status) all puts),
-    )
 
 -- the entry by which a device goes
 record GoesBy (to : List ℕ) (last : Option Entry) (gone : Entry) : Type 0 where

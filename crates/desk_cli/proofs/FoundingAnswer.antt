@@ -1,12 +1,12 @@
 -- Answers of `found` and `remember`.
-use Rattle.std.proofs.Common.{◌≡◌, ℕ, List, [], Option, Some, Ok, Err, refl, inl, inr}
+use Rattle.std.proofs.Common.{◌≡◌, ℕ, List, Option, Some, Ok, Err, refl, inl, inr}
 use Rattle.outside_edge.specs.Shelf.{KeepsFiles}
 use Rattle.outside_edge.specs.declared.shelf.Shelf as shelves
 use Rattle.desk_memory.specs.declared.memory.Memory as memory
 use Rattle.desk_memory.specs.Entry.{Entry}
 use Rattle.input_files.specs.{declared.{refusal.Refusal.Refusal, status.Status.{Status, TheVariants.Words}}, Reading.{IsUnread, Reaches, Reads}, Row.RowOf, Status.status_of_refusal}
 use Rattle.input_files.proofs.Refused.{refused-words}
-use Rattle.desk_cli.specs.{Founding.{FoundNames, FoundsIf, IsFoundAnswer, IsRememberAnswer, RememberNames, states_row}, MemoryFiles.{Making, ToldMemories}, StateFile.NumberedEntries}
+use Rattle.desk_cli.specs.{Founding.{FoundNames, FoundsIf, IsRememberAnswer, RememberNames, states_row}, MemoryFiles.{Making, ToldMemories}, StateFile.NumberedEntries}
 use Rattle.desk_cli.proofs.NoWords.{lacks-words, notes-words}
 
 founds-words : {F M : Type 0} (told : ToldMemories F M) (m : memory.Ghosts M)
@@ -18,21 +18,6 @@ founds-words told m desk_of memories memories_after names entries status (inl la
     lacks-words told Making memories memories_after names.memory status lacks is
 founds-words told m desk_of memories memories_after names entries status (inr founds) is =
     notes-words m founds.opened founds.left _ status founds.notes is
-
-pub found-answer : {F M : Type 0} (told : ToldMemories F M) (m : memory.Ghosts M)
-    (desk_of : M → List ℕ) (memories memories_after : F) (names : FoundNames)
-    (named : Option FoundNames) (status : Status)
-    → Some names ≡ named
-    → FoundsIf told m desk_of memories memories_after names [] status
-    → IsFoundAnswer told m desk_of memories memories_after named status
-found-answer told m desk_of memories memories_after names named status spells founds =
-    let no_words =
-    founds-words told m desk_of memories memories_after names [] status founds in
-    rw (← spells) (record {
-      words = (λ is. absurd (no_words is), λ none. absurd (cc none));
-      unread = λ is. absurd (no_words is);
-      answers = founds;
-    })
 
 -- the file was refused
 pub unread-words : {S F V : Type 0} (s : shelves.Ghosts S) (shelf shelf_after : S) (memories : F)

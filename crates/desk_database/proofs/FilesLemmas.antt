@@ -19,17 +19,6 @@ pool_files : {D : Type 0} {g : Ghosts D} (it : Pool D g)
 unfolding state files
 pool_files it = (refl, refl, λ left may. may.1)
 
-pub reads_on : {D : Type 0} {g : Ghosts D} (a b c : D) → OnlyReads g a b → OnlyReads g b c
-    → OnlyReads g a c
-reads_on a b c first then = record {
-  seen = then.seen ∙ first.seen;
-  clean = λ clean. first.clean (then.clean clean);
-  usable = then.usable;
-  key = then.key ∙ first.key;
-  rot = then.rot ∙ first.rot;
-  crash = λ left may. first.crash left (then.crash left may);
-}
-
 pub read_image : {D : Type 0} {g : Ghosts D} (old now : Files D) → OnlyReads g old.log now.log
     → OnlyReads g old.db now.db → image_of g old ≡ image_of g now
 read_image old now log db =

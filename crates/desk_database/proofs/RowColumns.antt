@@ -17,12 +17,3 @@ row_columns (a ∷ b ∷ c ∷ d ∷ e ∷ f ∷ g ∷ []) len = absurd (omega (
 row_columns (a ∷ b ∷ c ∷ d ∷ e ∷ f ∷ g ∷ h ∷ []) len = absurd (omega (arith, len))
 row_columns (a ∷ b ∷ c ∷ d ∷ e ∷ f ∷ g ∷ h ∷ i ∷ []) len = absurd (omega (arith, len))
 row_columns (a ∷ b ∷ c ∷ d ∷ e ∷ f ∷ g ∷ h ∷ i ∷ j ∷ k ∷ more) len = absurd (omega (arith, len))
-
-pub desk_columns : (r : Row) → length r ≡ 4
-    → r ≡ column r 0 ∷ column r 1 ∷ column r 2 ∷ column r 3 ∷ []
-desk_columns (a ∷ b ∷ c ∷ d ∷ []) len = refl
-desk_columns [] len = absurd (omega (arith, len))
-desk_columns (a ∷ []) len = absurd (omega (arith, len))
-desk_columns (a ∷ b ∷ []) len = absurd (omega (arith, len))
-desk_columns (a ∷ b ∷ c ∷ []) len = absurd (omega (arith, len))
-desk_columns (a ∷ b ∷ c ∷ d ∷ e ∷ more) len = absurd (omega (arith, len))

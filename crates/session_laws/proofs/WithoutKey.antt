@@ -53,10 +53,6 @@ same_head : {A : Type 0} (x y : A) (xs ys : List A) → x ∷ xs ≡ y ∷ ys �
 unfolding head_or
 same_head x y xs ys same = ap (head_or x) same
 
-same_tail : {A : Type 0} (x y : A) (xs ys : List A) → x ∷ xs ≡ y ∷ ys → xs ≡ ys
-unfolding tail_of
-same_tail x y xs ys same = ap tail_of same
-
 boundary-hide : (progress : Progress)
     → stands_at_boundary (hide_progress progress) ≡ stands_at_boundary progress
 boundary-hide Held = refl

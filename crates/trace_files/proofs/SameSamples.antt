@@ -1,21 +1,13 @@
 -- What a waveform shows of a play without its key.
 use Rattle.std.proofs.Common.{◌≡◌, ℕ, List, [], ◌∷◌, ◌++◌, Option, refl, ap, sym, ◌∙◌, arith}
-use Rattle.std.specs.Prelude.{if◌then◌else◌}
 use Rattle.std.proofs.lemmas.Bool.Decides.{nat_tests}
-use Rattle.word_arith.specs.declared.size.Size.{Size}
-use Rattle.device_types.specs.{declared.{access.Access.{Access, TheVariants.Read}, bus_record.BusRecord.BusRecord, event.Event.Event, rule.Rule.Rule}, ExecFlag.last_pc}
+use Rattle.device_types.specs.{declared.{access.Access.Access, bus_record.BusRecord.BusRecord, event.Event.Event, rule.Rule.Rule}, ExecFlag.last_pc}
 use Rattle.part_definitions.specs.{Pins.pins_word, Timer.timer_flag}
-use Rattle.device_trace.specs.{Blank.{blank_access, blank_value, touches_secrets}, Logs.Logs, Peripherals.with_all_events, Play.Play, Start.Start, Step.next_record, Trace.{next_logs, logs_after}}
+use Rattle.device_trace.specs.{Blank.{blank_access, blank_value}, Logs.Logs, Peripherals.with_all_events, Play.Play, Start.Start, Step.next_record, Trace.{next_logs, logs_after}}
 use Rattle.trace_facts.proofs.{Sound.IsSound, SoundPlay.logs_after-sound}
 use Rattle.key_isolation.proofs.{Hiding.{open_start, hide, flags_of-hide, last_registers-hide}, Induction.{play_hides, releases_before}, LogsBlank.step_hides, Projections.byte_sent_by-blank}
-use Rattle.trace_files.specs.{TraceText.next_line, WaveSamples.{byte_received, byte_received_by, next_ports, play_state, ports_with, state_of, wave_samples}}
+use Rattle.trace_files.specs.{TraceText.next_line, WaveSamples.{byte_received_by, next_ports, play_state, ports_with, state_of, wave_samples}}
 use Rattle.trace_files.proofs.SameLines.{next_line-hide}
-
--- no byte is received from where a secret lies
-byte_received-blank : (place : ℕ) (size : Size) (value : ℕ)
-    → byte_received place size (if touches_secrets (Read place size) then 0 else value)
-    ≡ byte_received place size value
-byte_received-blank place size value = grind (arith, nat_tests)
 
 byte_received_by-blank : (rule : Option Rule) (access : Option Access) (value : ℕ)
     → byte_received_by rule (blank_access access) (blank_value access value)

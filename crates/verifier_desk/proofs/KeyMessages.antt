@@ -1,10 +1,6 @@
 -- The messages of tokens, challenges and marks.
-use Rattle.std.proofs.Common.{◌≡◌, ◌∷◌, ℕ, List, refl}
+use Rattle.std.proofs.Common.{refl}
 use Rattle.verifier_desk.specs.KeyMessage.{MessagesStandApart}
-
--- two lists of unequal first bytes
-unlike_first : (rest others : List ℕ) → 1 ∷ rest ≡ 2 ∷ others → ⊥
-unlike_first rest others same = cc same
 
 pub messages_stand_apart : MessagesStandApart
 messages_stand_apart =

@@ -154,9 +154,6 @@ pub place_none : (name : List ℕ) (devices : List DeviceKey) (place : Option �
 place_none name devices None so = so
 place_none name devices (Some place) so = tt
 
-pub none_distinct : AreDistinct []
-none_distinct i j d within_i within_j same = absurd (omega (arith, within_i))
-
 -- whether a device has a name
 pub is_named : (name : List ℕ) (devices : List DeviceKey) (place : Option ℕ)
     → IfSome place (λ at. (d : DeviceKey)

@@ -15,7 +15,8 @@ returns-in_default-clause-served g c =
 pub returns-clause-served : goal.returns-clause-served
 returns-clause-served g c =
     let stands =
-    stands-first _ c.in-Ok.debugger c.new-run.result c.args.key.now c.args.image.now c.args.script.now
+    stands-first _ c.in-Ok.debugger c.new-run.result c.args.key.now c.args.image.now
+    c.args.script.now
     c.new-run.ensures.key c.new-run.ensures.image c.new-run.ensures.script
     c.in-Ok.ensures.1 in
     record {

@@ -13,7 +13,8 @@ returns-in-Ok g c = λ left.
     served-answer g.S.Shelf g.R.Source g.W.Sink c.args.shelf.now c.read.new.shelf left
     (record { source = c.args.source.now; sink = c.args.sink })
     (record { source = c.serve_life.new.source; sink = c.serve_life.result.1 })
-    (live_row c.args.files.now.image.name.now c.args.files.now.key.name.now) session c.serve_life.result.0
+    (live_row c.args.files.now.image.name.now c.args.files.now.key.name.now) session
+    c.serve_life.result.0
     (reads.values.reaches (Ok session) (refl {a = Ok session})) reads.kept served.served
     served.source_faults served.sink_faults
 
