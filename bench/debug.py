@@ -2,10 +2,10 @@
 """bench/debug.py SERVER PROGRAM: what a debugger takes, a line for each load and question.
 
 SERVER is the proved program that has `debug`, and PROGRAM the one that has `play`. Times are of the
-processor, the least of three: `continue` over all 10,000,000 steps beside `play`; a step back and a
-`reverse-continue` to the breakpoint before, at places near and far, once the device has gone back.
+processor: `continue` over all 10,000,000 steps beside `play`, the least of five rounds, each with
+both, as the machine's speed changes; a step back and a `reverse-continue` to the breakpoint before,
+at places near and far, once the device has gone back.
 """
-import functools
 import os
 import subprocess
 import sys
@@ -20,6 +20,7 @@ STEPS = 10_000_000
 PLACES = 100_000, 3_456_789, 9_999_000
 # A breakpoint and a watch that are never met: of a place in no image, and of a word of RAM.
 NEVER = "Z0,fe00,2", "Z2,2100,2"
+STOPS = (), NEVER[:1], NEVER[1:], NEVER
 
 
 class Debugger:
@@ -82,10 +83,6 @@ def printed(printer):
     return subprocess.check_output([sys.executable, f"{BENCH}/{printer}"]) if printer else b""
 
 
-def least(action, *arguments):
-    return min(action(*arguments) for _ in range(3))
-
-
 def played(program, name, script):
     words = [program, "play", f"{BENCH}/{name}.hex", "/dev/stdin", KEY, str(STEPS)]
     process = subprocess.Popen(words, stdin=subprocess.PIPE, stdout=subprocess.DEVNULL)
@@ -102,6 +99,14 @@ def continued(server, name, script, *stops):
     took = debugger.taken("c")
     debugger.end()
     return took
+
+
+def ratios(server, program, name, script):
+    """How much longer `continue` takes than `play`, with each of the stops."""
+    rounds = [[played(program, name, script),
+               *(continued(server, name, script, *stops) for stops in STOPS)] for _ in range(5)]
+    plays, *goings = map(min, zip(*rounds))
+    return [going / plays for going in goings]
 
 
 def gone_back(server, name, script, loop):
@@ -130,11 +135,9 @@ def main():
     for name, printer, loop in LOADS:
         script = printed(printer)
         told = f"{name}{' with events' if script else ''}"
-        plays = least(played, program, name, script)
-        times = functools.partial(least, continued, server, name, script)
-        ratios = [times(*stops) / plays for stops in ((), NEVER[:1], NEVER[1:], NEVER)]
-        print(f"continue, {told}: {', '.join(f'{ratio:.2f}' for ratio in ratios)} times play, with "
-              f"nothing, a breakpoint, a watch and both", flush=True)
+        times = ", ".join(f"{ratio:.2f}" for ratio in ratios(server, program, name, script))
+        print(f"continue, {told}: {times} times play, with nothing, a breakpoint, a watch and both",
+              flush=True)
         longest, kib = gone_back(server, name, script, loop)
         print(f"back, {told}: {longest['bs'] * 1000:.0f} ms a step, {longest['bc'] * 1000:.0f} ms "
               f"to a breakpoint, {kib:,} KiB", flush=True)
