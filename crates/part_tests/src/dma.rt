@@ -2,7 +2,7 @@ ghost use Rattle.std.specs.Prelude.{List};
 ghost use Rattle.part_definitions.specs.Dma.{DmaEvent};
 ghost use Rattle.device_peripherals.specs.Dma.{DmaStandsFor};
 
-use Act::{Clear, Read, Registers, Start, Step, Write};
+use Act::{Clear, Control, Registers, Start, Step, Write};
 use device_peripherals::Dma;
 use device_types::{Access, BusMaster};
 use word_arith::Size::{self, Byte, Word};
@@ -20,7 +20,7 @@ const DLEN: u16 = 0x01E6;
 enum Act {
     Start(u16, u16, u16, bool),
     Write(u16, Size, u16),
-    Read(u16, Size, u16),
+    Control(u16),
     // What DSRC, DDST and DLEN read.
     Registers(u16, u16, u16),
     // A step in which its access, if there is one, gives a value.
@@ -53,7 +53,7 @@ fn has_answer(dma: &mut Dma, act: Act) -> bool
             dma.write(place, size, number);
             true
         }
-        Read(place, size, number) => dma.read(place, size) == number,
+        Control(number) => dma.read(DCTL, Word) == number,
         Registers(source, destination, words) => {
             dma.read(DSRC, Word) == source
                 && dma.read(DDST, Word) == destination
@@ -77,15 +77,15 @@ fn writes(place: u16, number: u16) -> Option<Access> {
 
 #[test]
 fn transfers_by_their_starts(rt: HostRuntime) {
-    let rows: [&[Act]; 9] = [
+    let rows: [&[Act]; 8] = [
         &[
             Start(0xFFFE, 0x0301, 2, true),
             Step(0x1234, reads(0xFFFE)),
             Step(0, writes(0x0300, 0x1234)),
             Step(0x5678, reads(0x0000)),
-            Read(DCTL, Word, 1),
+            Control(1),
             Step(0, writes(0x0302, 0x5678)),
-            Read(DCTL, Word, 0),
+            Control(0),
             Step(0, None),
         ],
         &[
@@ -97,10 +97,10 @@ fn transfers_by_their_starts(rt: HostRuntime) {
             Write(DCTL + 1, Byte, 1),
             Step(0, None),
             Write(DCTL, Byte, 3),
-            Read(DCTL, Word, 1),
+            Control(1),
             Step(0x1234, reads(0x0300)),
             Step(0, writes(0x0400, 0x1234)),
-            Read(DCTL, Word, 0),
+            Control(0),
         ],
         &[
             Start(0x0300, 0x0400, 1, true),
@@ -111,16 +111,12 @@ fn transfers_by_their_starts(rt: HostRuntime) {
             Step(0, writes(0x0400, 0x1234)),
             Step(0, None),
         ],
-        &[
-            Start(0x0300, 0x0400, 0, true),
-            Read(DCTL, Word, 0),
-            Step(0, None),
-        ],
+        &[Start(0x0300, 0x0400, 0, true), Control(0), Step(0, None)],
         &[
             Start(0x0300, 0x0400, 1, true),
             Step(0x1234, reads(0x0300)),
             Clear,
-            Read(DCTL, Word, 0),
+            Control(0),
             Step(0, None),
         ],
         &[
@@ -144,21 +140,6 @@ fn transfers_by_their_starts(rt: HostRuntime) {
             Step(0, writes(0x0000, 0x1234)),
             Step(0, None),
         ],
-        // a register keeps what is written, also beside a transfer
-        &[
-            Write(DSRC, Word, 0x1235),
-            Write(DDST, Word, 0x5679),
-            Write(DLEN, Word, 0x9ABC),
-            Read(DSRC, Byte, 0x35),
-            Read(DSRC + 1, Byte, 0x12),
-            Read(DDST, Byte, 0x79),
-            Read(DDST + 1, Byte, 0x56),
-            Read(DLEN, Byte, 0xBC),
-            Read(DLEN + 1, Byte, 0x9A),
-            Start(0x0300, 0x0400, 2, true),
-            Registers(0x1235, 0x5679, 0x9ABC),
-            Read(DLEN + 2, Word, 0),
-        ],
         &[
             Write(DLEN, Word, 1),
             Start(0x0300, 0x0400, 2, true),
@@ -178,4 +159,20 @@ fn transfers_by_their_starts(rt: HostRuntime) {
             assert!(rt; has_answer(&mut dma, *act), "{act:?} of {acts:?}");
         }
     }
+}
+
+#[test]
+fn registers_keep_what_is_written(rt: HostRuntime) {
+    let mut dma = Dma::new();
+    for &(place, number) in &[(DSRC, 0x1235), (DDST, 0x5679), (DLEN, 0x9ABC)] {
+        dma.write(place, Word, number);
+        assert_eq!(rt; dma.read(place, Word), number);
+        assert_eq!(rt; dma.read(place, Byte), number % 0x100);
+        assert_eq!(rt; dma.read(place + 1, Byte), number / 0x100);
+    }
+    dma.start(0x0300, 0x0400, 2);
+    assert_eq!(rt; dma.read(DSRC, Word), 0x1235);
+    assert_eq!(rt; dma.read(DDST, Word), 0x5679);
+    assert_eq!(rt; dma.read(DLEN, Word), 0x9ABC);
+    assert_eq!(rt; dma.read(DLEN + 2, Word), 0);
 }

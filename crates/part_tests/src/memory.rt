@@ -8,12 +8,12 @@ use word_arith::Size;
 // EXEC word.
 fn image_of_six(alloc: Global) -> Result<Image, AllocError> {
     let mut image = Image::new(alloc)?;
-    for (place, byte) in [0x0200, 0x21FF, 0xC000, 0xFFFF, 0x0268, 0x0269]
-        .into_iter()
-        .zip(1..)
-    {
-        image.set(place, byte);
-    }
+    image.set(0x0200, 1);
+    image.set(0x21FF, 2);
+    image.set(0xC000, 3);
+    image.set(0xFFFF, 4);
+    image.set(0x0268, 5);
+    image.set(0x0269, 6);
     Ok(image)
 }
 
@@ -95,9 +95,10 @@ fn writes_stay_where_the_map_takes_them(rt: HostRuntime) -> Result<(), Fail> {
         or_max: 0,
     };
     assert_eq!(rt; memory.bounds(), bounds);
-    let bytes = b"\x34\x12\x00\x34".as_slice();
-    for &(first, last, span) in &[(0x0260, 0x0263, Some(bytes)), (0x21FF, 0x2200, None)] {
-        assert_eq!(rt; memory.span(first, last), span);
-    }
+    assert_eq!(rt;
+        memory.span(0x0260, 0x0263),
+        Some(b"\x34\x12\x00\x34".as_slice())
+    );
+    assert_eq!(rt; memory.span(0x21FF, 0x2200), None);
     Ok(())
 }

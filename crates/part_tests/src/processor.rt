@@ -315,15 +315,16 @@ fn an_entry_pushes_pc_and_sr(rt: HostRuntime) {
         let Some((proposal, value)) = access(word) else {
             panic!(rt; "the word is an access");
         };
-        let enters = cpu.is_entering() && !cpu.at_boundary() && cpu.access() == proposal;
-        assert!(rt;
-            enters && cpu.pc() == 0xC000 && cpu.sp() == 0x2200,
-            "{word}"
-        );
-        assert!(rt; cpu.try_take(value), "{word}");
+        assert!(rt; cpu.is_entering() && !cpu.at_boundary());
+        assert_eq!(rt; cpu.access(), proposal);
+        assert_eq!(rt; (cpu.pc(), cpu.sp()), (0xC000, 0x2200));
+        assert!(rt; cpu.try_take(value));
     }
-    assert!(rt; cpu.at_boundary() && !cpu.allows_interrupts() && !cpu.is_asleep());
+    assert!(rt; cpu.at_boundary());
     assert_eq!(rt; (cpu.pc(), cpu.sp()), (0xD000, 0x21FC));
+    assert!(rt; !cpu.allows_interrupts() && !cpu.is_asleep());
+    cpu.clear();
+    assert_eq!(rt; cpu.regs(), [0; 16]);
 }
 
 // MOV #N,R sets all registers but R3, which stays 0; a reset sets each to 0 (docs/step.md).

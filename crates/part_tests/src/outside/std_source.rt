@@ -7,11 +7,12 @@ use outside_edge::{Failed, Source, StdSource};
 fn a_reader_gives_what_it_has(rt: HostRuntime) {
     let mut source = StdSource::new(FakeFile::new(b"0123456789", 7));
     let mut piece = *b".........";
-    // from which byte of the piece on, and how many are given
-    for &(first, count) in &[(0, 7), (7, 2), (0, 1), (0, 0)] {
-        assert_eq!(rt; source.take(&mut piece[first..]), Ok(count));
-    }
+    assert_eq!(rt; source.take(&mut piece), Ok(7));
+    assert_eq!(rt; source.take(&mut piece[7..]), Ok(2));
+    assert_eq!(rt; &piece, b"012345678");
+    assert_eq!(rt; source.take(&mut piece), Ok(1));
     assert_eq!(rt; &piece, b"912345678");
+    assert_eq!(rt; source.take(&mut piece), Ok(0));
 }
 
 #[test]
