@@ -376,18 +376,18 @@ impl<G: TraceFlag> Bus<G> {
         &mut self,
         regs: &[u16; 16],
         turn: &Turn,
-        dma: Option<Access>,
+        dma: &Option<Access>,
         script_reset: bool,
         keeps: bool,
     ) -> Option<u16>
         ensures kept { keeps ≡ true → IsSome self.new.last }
-        ensures answer { AnswersTurn G.flag self.old regs.now turn.now dma script_reset result }
-        ensures stands { MakesTurn G.flag self.old regs.now turn.now dma script_reset self.new }
+        ensures answer { AnswersTurn G.flag self.old regs.now turn.now dma.now script_reset result }
+        ensures stands { MakesTurn G.flag self.old regs.now turn.now dma.now script_reset self.new }
     {
         if CR.contains(turn.pc) {
-            self.act_in_rom(regs, *turn, dma, script_reset, keeps)
+            self.act_in_rom(regs, *turn, *dma, script_reset, keeps)
         } else {
-            self.act_anywhere(regs, turn, dma, script_reset, keeps)
+            self.act_anywhere(regs, turn, *dma, script_reset, keeps)
         }
     }
 
@@ -466,7 +466,8 @@ impl<G: TraceFlag> Bus<G> {
         self.monitors.pass(turn.pc);
     }
 
-    // A step in the ROM, apart from the other steps, which are shorter by that.
+    // A step in the ROM, apart from the other steps, which are shorter by that. The turn and the
+    // DMA's access are copied, so that other steps keep none in memory.
     #[inline(never)]
     fn act_in_rom(
         &mut self,
