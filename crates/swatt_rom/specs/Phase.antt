@@ -90,6 +90,12 @@ module _ {D : Type 0} (hash : Hash D) where
       StandsAtInnerDigest hash.digest_of inner mac words
   PhaseStandsFor (WritesMac mac) words = StandsAtMac hash.digest_of mac words
 
+-- the phase writes, and reads nothing
+abbrev pub IsWrite : {D : Type 0} → Phase D → Type 0
+IsWrite (ReadsRequest request) = ⊥
+IsWrite (ReadsRegion region mac) = ⊥
+IsWrite phase = Unit {0}
+
 -- the return read comes after these words, in which this decision was written
 pub record IsBeforeReturn (decision : ℕ) (words : List ℕ) : Type 0 where
   pub count : length words ≡ before_return words

@@ -80,7 +80,7 @@ fn mac_of<D: Digest32>(key: &[u8], message: &[u8]) -> Hmac<D>
 }
 
 impl<D: Digest32> Phase<D> {
-    ghost use Rattle.swatt_rom.specs.Phase.{PhaseStandsFor, NextStandsFor, HasReadRegion, HashesRegion, BEFORE_DERIVED_KEY, before_inner_digest};
+    ghost use Rattle.swatt_rom.specs.Phase.{IsWrite, PhaseStandsFor, NextStandsFor, HasReadRegion, HashesRegion, BEFORE_DERIVED_KEY, before_inner_digest};
 
     /// The beginning of a call.
     pub fn new() -> Phase<D>
@@ -142,10 +142,42 @@ impl<D: Digest32> Phase<D> {
     {
         match self {
             Phase::ReadsRequest { words } => {
-                let decided = decide::<D>(words.take(value)?);
-                *self = Phase::WritesHighWord { decided };
+                let words = words.take(value)?;
+                self.end_request(words);
                 None
             }
+            Phase::ReadsRegion { region, mac } => {
+                mac.update_word(value);
+                region.pass()?;
+                self.end_region();
+                None
+            }
+            _ => self.pass_write(),
+        }
+    }
+
+    // All words of the request were read.
+    #[inline(never)]
+    fn end_request(&mut self, words: [u16; REQUEST_WORDS])
+        ensures { PhaseStandsFor D.hash self.new words }
+    {
+        *self = Phase::WritesHighWord {
+            decided: decide::<D>(words),
+        };
+    }
+
+    // Goes on after a write: gives the decision where the return read comes next. It stands apart
+    // from the reads, which are most of a call, as room for each next phase is set to 0 here.
+    #[inline(never)]
+    fn pass_write(&mut self) -> Option<u16>
+        requires { IsWrite self.old }
+        ensures { (sp value : ℕ) (words : List ℕ)
+            → PhaseStandsFor D.hash self.old words
+            → NextStandsFor D.hash self.new result
+            (words ++ next_word D.hash.digest_of sp words value ∷ []) }
+    {
+        match self {
+            Phase::ReadsRequest { .. } | Phase::ReadsRegion { .. } => unreachable!(),
             Phase::WritesHighWord { decided } => {
                 *self = Phase::WritesLowWord { decided: *decided };
                 None
@@ -164,12 +196,6 @@ impl<D: Digest32> Phase<D> {
             Phase::WritesDerivedKey { key, bounds, bytes } => {
                 key.pass()?;
                 *self = Phase::after_derived_key(&key.bytes, *bounds, bytes);
-                None
-            }
-            Phase::ReadsRegion { region, mac } => {
-                mac.update_word(value);
-                region.pass()?;
-                self.end_region();
                 None
             }
             Phase::WritesInnerDigest { inner, mac } => {

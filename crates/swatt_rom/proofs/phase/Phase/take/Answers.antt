@@ -1,11 +1,11 @@
-use Rattle.std.proofs.Common.{◌≡◌, ◌+◌, ◌++◌, ◌∷◌, ◌∙◌, [], ℕ, List, length, length-append, ap, refl, subst, sym, rules, arith}
-use Rattle.part_definitions.specs.{Attestation.region_words, Request.ATTESTS}
-use Rattle.swatt_rom.specs.{RomCall.next_word, Phase.{PhaseStandsFor, HasDecided, IsBeforeReturn}, declared.phase.Phase.TheVariants.{ReadsRequest, WritesDerivedKey, ReadsRegion, WritesInnerDigest, WritesMac}}
-use Rattle.swatt_rom.proofs.{WordsPassed.{bounds_read-append, call_key-append, metadata_read-append, decision_read-append}, Accesses.{next_word-request, next_word-decision, next_word-region}, Steps.{goes_on, ends_with, decided-first, decided-more, decided-denies, decided-attests, derived_key-more, region-more, region-last, inner_digest-more, inner_digest-last, mac-last, mac-more}}
+use Rattle.std.proofs.Common.{◌≡◌, ◌+◌, ◌++◌, ◌∷◌, ◌∙◌, [], ap, subst, sym, rules}
+use Rattle.part_definitions.specs.Attestation.{region_words}
+use Rattle.swatt_rom.specs.{RomCall.next_word, Phase.PhaseStandsFor, declared.phase.Phase.TheVariants.{ReadsRequest, ReadsRegion}}
+use Rattle.swatt_rom.proofs.{Accesses.{write-of, next_word-request, next_word-region}, Steps.{goes_on, region-more, region-last}}
 use Rattle.swatt_rom.proofs.phase.Phase.take.Goals as goal
 
-pub returns-in_err-take-in-ReadsRequest : goal.returns-in_err-take-in-ReadsRequest
-returns-in_err-take-in-ReadsRequest g c = λ sp words stands.
+pub returns-in_err-words-in-ReadsRequest : goal.returns-in_err-words-in-ReadsRequest
+returns-in_err-words-in-ReadsRequest g c = λ sp words stands.
     let hash = g.D.Digest32.hash in
     let request = c.in-ReadsRequest.words in
     let has = subst (λ phase. PhaseStandsFor hash phase words) c.in-ReadsRequest.is stands in
@@ -17,85 +17,18 @@ returns-in_err-take-in-ReadsRequest g c = λ sp words stands.
     ∙ ap (λ before. before ++ c.args.value ∷ []) has
     ∙ sym more)
 
-pub returns-in_ok-take-in-ReadsRequest : goal.returns-in_ok-take-in-ReadsRequest
-returns-in_ok-take-in-ReadsRequest g c = λ sp words stands.
+pub returns-in_ok-words-in-ReadsRequest : goal.returns-in_ok-words-in-ReadsRequest
+returns-in_ok-words-in-ReadsRequest g c = λ sp words stands.
     let hash = g.D.Digest32.hash in
     let digest = hash.digest_of in
     let has = subst (λ phase. PhaseStandsFor hash phase words) c.in-ReadsRequest.is stands in
-    let all = c.in_ok-take-in-ReadsRequest.field-0 in
+    let all = c.in_ok-words-in-ReadsRequest.words in
     let passed : all ≡ words ++ next_word digest sp words c.args.value ∷ [] =
-    c.in_ok-take-in-ReadsRequest.ensures.all
+    c.in_ok-words-in-ReadsRequest.ensures.all
     ∙ sym (ap (λ before. before ++ c.args.value ∷ []) has)
     ∙ ap (λ word. words ++ word ∷ [])
     (sym (next_word-request hash c.in-ReadsRequest.words sp c.args.value words has)) in
-    subst (HasDecided digest c.decide-decided.result 0) passed
-    (decided-first digest c.decide-decided.result all (search rules)
-    c.decide-decided.ensures.words c.decide-decided.ensures.decision
-    c.decide-decided.ensures.low c.decide-decided.ensures.high)
-
-pub returns-in-WritesHighWord : goal.returns-in-WritesHighWord
-returns-in-WritesHighWord g c = λ sp words stands.
-    decided-more g.D.Digest32.hash.digest_of c.in-WritesHighWord.decided 0 1 words _ refl
-    (subst (λ phase. PhaseStandsFor g.D.Digest32.hash phase words)
-    c.in-WritesHighWord.is stands)
-
-pub returns-in-WritesLowWord : goal.returns-in-WritesLowWord
-returns-in-WritesLowWord g c = λ sp words stands.
-    decided-more g.D.Digest32.hash.digest_of c.in-WritesLowWord.decided 1 2 words _ refl
-    (subst (λ phase. PhaseStandsFor g.D.Digest32.hash phase words)
-    c.in-WritesLowWord.is stands)
-
-pub returns-in-WritesDecision : goal.returns-in-WritesDecision
-returns-in-WritesDecision g c = λ sp words stands.
-    let hash = g.D.Digest32.hash in
-    let digest = hash.digest_of in
-    let decided = c.in-WritesDecision.decided in
-    let has = subst (λ phase. PhaseStandsFor hash phase words) c.in-WritesDecision.is stands in
-    subst (λ word. IsBeforeReturn decided.decision (words ++ word ∷ []))
-    (sym (next_word-decision hash decided sp c.args.value words has))
-    (decided-denies digest decided words has (search rules))
-
-pub returns-in-WritesDecision-2 : goal.returns-in-WritesDecision-2
-returns-in-WritesDecision-2 g c = λ sp words stands.
-    let hash = g.D.Digest32.hash in
-    let decided = c.in-WritesDecision.decided in
-    let has = subst (λ phase. PhaseStandsFor hash phase words) c.in-WritesDecision.is stands in
-    subst (λ word. PhaseStandsFor hash c.after_attesting.result (words ++ word ∷ []))
-    (sym (next_word-decision hash decided sp c.args.value words has))
-    (decided-attests hash c.after_attesting.result decided words
-    c.after_attesting.ensures (search rules) has)
-
-pub returns-in_err-pass-in-WritesDerivedKey : goal.returns-in_err-pass-in-WritesDerivedKey
-returns-in_err-pass-in-WritesDerivedKey g c = λ sp words stands.
-    let hash = g.D.Digest32.hash in
-    let digest = hash.digest_of in
-    let next : c.pass.new.self.next ≡ c.in-WritesDerivedKey.key.next + 1 = search rules in
-    let word = next_word digest sp words c.args.value in
-    goes_on hash
-    (WritesDerivedKey c.pass.new.self c.in-WritesDerivedKey.bounds c.in-WritesDerivedKey.bytes)
-    _ (words ++ word ∷ []) (search rules)
-    (derived_key-more digest c.in-WritesDerivedKey.key c.pass.new.self
-    c.in-WritesDerivedKey.bounds c.in-WritesDerivedKey.bytes.items words word
-    c.pass.ensures.bytes next
-    (subst (λ phase. PhaseStandsFor hash phase words) c.in-WritesDerivedKey.is stands))
-
-pub returns-in_ok-pass-in-WritesDerivedKey : goal.returns-in_ok-pass-in-WritesDerivedKey
-returns-in_ok-pass-in-WritesDerivedKey g c = λ sp words stands.
-    let hash = g.D.Digest32.hash in
-    let digest = hash.digest_of in
-    let key = c.in-WritesDerivedKey.key in
-    let has =
-    subst (λ phase. PhaseStandsFor hash phase words) c.in-WritesDerivedKey.is stands in
-    let last : key.next + 1 ≡ 16 = search rules in
-    let count : length words ≡ 77 + key.next = has.at_word.same_length in
-    let word : List ℕ = next_word digest sp words c.args.value ∷ [] in
-    c.after_derived_key.ensures (words ++ word)
-    (c.pass.ensures.bytes ∙ has.at_word.same_bytes
-    ∙ sym (call_key-append digest words word (omega arith)))
-    (has.same_bounds ∙ sym (bounds_read-append words word (omega arith)))
-    (c.deref.ensures.0 ∙ has.same_metadata ∙ sym (metadata_read-append words word (omega arith)))
-    (omega (arith, length-append words word))
-    (decision_read-append words word (omega arith) ∙ has.attests)
+    subst (PhaseStandsFor hash c.end_request.new.self) passed c.end_request.ensures
 
 pub returns-in_err-pass-in-ReadsRegion : goal.returns-in_err-pass-in-ReadsRegion
 returns-in_err-pass-in-ReadsRegion g c = λ sp words stands.
@@ -104,14 +37,14 @@ returns-in_err-pass-in-ReadsRegion g c = λ sp words stands.
     let region = c.in-ReadsRegion.region in
     let mac = c.in-ReadsRegion.mac in
     let has = subst (λ phase. PhaseStandsFor hash phase words) c.in-ReadsRegion.is stands in
-    let next : c.pass-in-ReadsRegion.new.self.next ≡ region.next + 1 = search rules in
-    let later = ReadsRegion c.pass-in-ReadsRegion.new.self c.update_word.new.self in
+    let next : c.pass.new.self.next ≡ region.next + 1 = search rules in
+    let later = ReadsRegion c.pass.new.self c.update_word.new.self in
     goes_on hash later _ (words ++ next_word digest sp words c.args.value ∷ [])
     (search rules)
     (subst (λ word. PhaseStandsFor hash later (words ++ word ∷ []))
     (sym (next_word-region hash region mac sp c.args.value words has))
-    (region-more hash mac c.update_word.new.self region c.pass-in-ReadsRegion.new.self
-    words c.args.value c.pass-in-ReadsRegion.ensures.bounds next c.update_word.ensures has))
+    (region-more hash mac c.update_word.new.self region c.pass.new.self
+    words c.args.value c.pass.ensures.bounds next c.update_word.ensures has))
 
 pub returns-in_ok-pass-in-ReadsRegion : goal.returns-in_ok-pass-in-ReadsRegion
 returns-in_ok-pass-in-ReadsRegion g c = λ sp words stands.
@@ -126,41 +59,9 @@ returns-in_ok-pass-in-ReadsRegion g c = λ sp words stands.
     (region-last hash mac c.update_word.new.self region words c.args.value last
     c.update_word.ensures has))
 
-pub returns-in_err-pass-in-WritesInnerDigest : goal.returns-in_err-pass-in-WritesInnerDigest
-returns-in_err-pass-in-WritesInnerDigest g c = λ sp words stands.
-    let hash = g.D.Digest32.hash in
-    let digest = hash.digest_of in
-    let inner = c.in-WritesInnerDigest.inner in
-    let next : c.pass-in-WritesInnerDigest.new.self.next ≡ inner.next + 1 = search rules in
-    let word = next_word digest sp words c.args.value in
-    goes_on hash
-    (WritesInnerDigest c.pass-in-WritesInnerDigest.new.self c.in-WritesInnerDigest.mac)
-    _ (words ++ word ∷ []) (search rules)
-    (inner_digest-more digest inner c.pass-in-WritesInnerDigest.new.self
-    c.in-WritesInnerDigest.mac words word
-    c.pass-in-WritesInnerDigest.ensures.bytes next
-    (subst (λ phase. PhaseStandsFor hash phase words) c.in-WritesInnerDigest.is stands))
+pub pass_write-requires : goal.pass_write-requires
+pass_write-requires g c =
+    write-of c.args.self.now c.in_default.not-ReadsRequest c.in_default.not-ReadsRegion
 
-pub returns-in_ok-pass-in-WritesInnerDigest : goal.returns-in_ok-pass-in-WritesInnerDigest
-returns-in_ok-pass-in-WritesInnerDigest g c = λ sp words stands.
-    let hash = g.D.Digest32.hash in
-    let digest = hash.digest_of in
-    let inner = c.in-WritesInnerDigest.inner in
-    let last : inner.next + 1 ≡ 16 = search rules in
-    inner_digest-last digest inner c.in-WritesInnerDigest.mac words
-    (next_word digest sp words c.args.value) last
-    (subst (λ phase. PhaseStandsFor hash phase words) c.in-WritesInnerDigest.is stands)
-
-pub returns-in-WritesMac : goal.returns-in-WritesMac
-returns-in-WritesMac g c = λ sp words stands.
-    let hash = g.D.Digest32.hash in
-    let digest = hash.digest_of in
-    let mac = c.in-WritesMac.mac in
-    let rest = c.pass-in-WritesMac.new.self in
-    let has = subst (λ phase. PhaseStandsFor hash phase words) c.in-WritesMac.is stands in
-    let word = next_word digest sp words c.args.value in
-    ends_with hash (WritesMac rest) c.pass-in-WritesMac.result c.and.result ATTESTS
-    (words ++ word ∷ []) c.and.ensures
-    (λ none. mac-more digest mac rest words word c.pass-in-WritesMac.ensures.bytes
-    (c.pass-in-WritesMac.ensures.next none) has)
-    (λ some. mac-last digest mac words word (c.pass-in-WritesMac.ensures.last.0 some) has)
+pub returns-in_default : goal.returns-in_default
+returns-in_default g c = λ sp words stands. c.pass_write.ensures sp c.args.value words stands
