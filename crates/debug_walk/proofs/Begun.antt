@@ -1,5 +1,5 @@
 -- A walk that begins at power-on.
-use Rattle.std.proofs.Common.{◌≡◌, ℕ, Result, Ok, Err, inr, subst, sym}
+use Rattle.std.proofs.Common.{◌≡◌, Result, Ok, Err, inr}
 use Rattle.std.specs.Prelude.{IfOk, List}
 use Rattle.hmac_core.specs.Hash.{Hash}
 use Rattle.debug_session.specs.{Place.Run, declared.watch.Watch.Watch}
@@ -12,10 +12,5 @@ pub begun-anew : {D E : Type 0} (hash : Hash D) (played run : Run) (result : Res
     → ((watches : List Watch) → IfOk result (λ walk. IsStretch watches played 0 walk.stretch))
     → IfOk result (IsBegun hash run)
 begun-anew hash played run (Ok walk) same walks place kept =
-    subst (λ (one : Run). IsBegun hash one walk) same
-    (record {
-      walks = walks;
-      fresh = inr (λ watches.
-          subst (λ (at : ℕ). IsStretch watches played at walk.stretch) (sym place) (kept watches));
-    })
+    rw (← same) (record { walks = walks; fresh = inr (λ watches. rw place (kept watches)) })
 begun-anew hash played run (Err error) same walks place kept = tt

@@ -152,8 +152,7 @@ module _ (run : Run) (place : ℕ) (here : stands_at_boundary (logs_at run place
     asleep-at : (vector : Option ℕ) → kind_of (logs_at run place).progress vector ≡ Idle
         → ((pc_of regs == ROM_ENTRY) ≡ false) × (is_asleep regs ≡ true)
     asleep-at vector idle =
-        let is : boundary_kind regs vector ≡ Idle =
-        subst (λ (progress : Progress). kind_of progress vector ≡ Idle) at-boundary idle in
+        let is : boundary_kind regs vector ≡ Idle = rw at-boundary at idle in
         idle-kind (pc_of regs == ROM_ENTRY) (in_rom (pc_of regs)) (is_some vector) (is_asleep regs)
         is
 
@@ -165,9 +164,7 @@ module _ (run : Run) (place : ℕ) (here : stands_at_boundary (logs_at run place
         let fetch : Access = Fetch (even (pc_of regs)) in
         let passed = and_parts (is_passed stops asleep (Some fetch)) true quiet in
         let unasked = passed-unasked asleep (is_unasked stops fetch) passed.0 in
-        let proper : IsProper regs =
-        subst (λ (progress : Progress). IsProperProgress progress) at-boundary
-        (proper-at run place) in
+        let proper : IsProper regs = rw at-boundary at (proper-at run place) in
         ap (λ (at : ℕ). has_breakpoint stops at) (sym (proper-even regs proper))
         ∙ not-hit (has_breakpoint stops (even (pc_of regs))) unasked
 
@@ -212,20 +209,11 @@ unbroken-at stops asleep run place opened here =
 idle-same : (progress : Progress) (vector : Option ℕ) (access : Option Access) (value : ℕ)
     → stands_at_boundary progress ≡ true
     → progress_after None Idle (progress_within progress Idle vector) access value ≡ progress
-idle-same Held vector access value here = absurd (false≢true here)
-idle-same (Runs (Boundary from)) vector access value here = refl
-idle-same (Runs (Executing from values)) vector access value here = absurd (false≢true here)
-idle-same (Runs (Entering from other values)) vector access value here =
-    absurd (false≢true here)
-idle-same (InCall from words) vector access value here = absurd (false≢true here)
+idle-same progress vector access value here = rw (boundary-progress progress here) refl
 
 same-level : (progress : Progress) (level : ℕ)
     → stands_at_boundary progress ≡ true → level_after progress progress level ≡ level
-same-level Held level here = absurd (false≢true here)
-same-level (Runs (Boundary from)) level here = refl
-same-level (Runs (Executing from values)) level here = absurd (false≢true here)
-same-level (Runs (Entering from vector values)) level here = absurd (false≢true here)
-same-level (InCall from words) level here = absurd (false≢true here)
+same-level progress level here = rw (boundary-progress progress here) refl
 
 module _ (run : Run) (place : ℕ)
     (here : stands_at_boundary (logs_at run place).progress ≡ true)

@@ -1,7 +1,7 @@
 -- A walk that makes a row of steps.
 use Rattle.std.proofs.Common.{◌≡◌, ◌<◌, ◌≤◌, ◌+◌, ◌-◌, ◌∙◌, ◌⊎◌, ⊎_elim, inl, inr, ℕ, zero, suc, Bool, true, false, List, [], ◌∷◌, ◌++◌, Option, None, Some, length, refl, ap, sym, subst, arith}
 use Rattle.std.specs.Prelude.{◌==◌, ◌&&◌, ◌||◌, is_some, nat_le, nat_lt, if◌then◌else◌}
-use Rattle.std.proofs.lemmas.Bool.{cond-true, cond_both, eqb-true}
+use Rattle.std.proofs.lemmas.Bool.{cond_both, eqb-true}
 use Rattle.std.proofs.lemmas.Bool.Decides.{nat_tests}
 use Rattle.std.proofs.lemmas.List.{length_push}
 use Rattle.device_types.specs.TraceFlag.{Flag}
@@ -12,7 +12,7 @@ use Rattle.device_core.specs.{Device.{machine_of, steps_made}, Quiet.Question, d
 use Rattle.device_play.specs.Midway.{HasGoneOn}
 use Rattle.debug_session.specs.{Request.most_steps, declared.{command.Way.TheVariants.Ahead, watch.{Hit.Hit, Watch.Watch}}, Cause.{behind, hit_on, hits, is_broken_at, is_due}, Place.{Run, aux_at, exec_at, sight_at, view_of}, Sight.Sight, Stops.Stops, Watched.first_hit}
 use Rattle.debug_session.proofs.Views.{view-at}
-use Rattle.debug_walk.specs.{Passing.{ArePassed, AreSilent, IsCapped, IsPassed, Sleeps, goes_over}, Stretch.{has_cause, stretch_from, stretch_of_last}, Walk.{TellsCause, stretch_behind, stretch_there}, declared.stretch.Stretch.Stretch}
+use Rattle.debug_walk.specs.{Passing.{ArePassed, AreSilent, IsCapped, IsPassed, goes_over}, Stretch.{has_cause, stretch_from, stretch_of_last}, Walk.{TellsCause, stretch_behind, stretch_there}, declared.stretch.Stretch.Stretch}
 use Rattle.debug_walk.proofs.{QuietPlaces.{GoesBy, SleepsOn, flags-next, goes-by, none-first, unbroken-at}, StretchSteps.{KeepsBehind, behind-few, hits-with, kept_behind, keeps-none}, TellsSteps.{KeepsTelling, tells-over, tells-past, tells-there}}
 
 -- from a place on, from each place to the next
@@ -195,8 +195,7 @@ module _ (stops : Stops) (asleep : Bool) (run : Run) (place end : ℕ) (was : St
               (undue-by none stops.until refl at from before);
           slept = λ sleeps earlier same.
               let is : at ≡ earlier = omega (arith, same) in
-              subst (λ (there : ℕ). Sleeps run there) is
-              ((goes at from (omega (arith, before))).sleeps sleeps).sleeps;
+              rw is at ((goes at from (omega (arith, before))).sleeps sleeps).sleeps;
         }
 
     pub are-passed : ArePassed stops asleep run place end
@@ -243,9 +242,7 @@ module _ (stops : Stops) (asleep : Bool) (run : Run) (place end : ℕ) (was : St
       level-there : (sight_at run place).boundary ≡ true
           → begun.level ≡ (sight_at run place).level
       level-there here =
-          ap (λ (stretch : Stretch). stretch.level)
-          (cond-true (sight_at run place).boundary
-          (stretch_from place (sight_at run place).level) was here)
+          rw here refl
 
       keeps-asleep : place < last → asleep ≡ true
           → KeepsBehind stops.watches run last (stretch_from last begun.level)
@@ -256,16 +253,13 @@ module _ (stops : Stops) (asleep : Bool) (run : Run) (place end : ℕ) (was : St
           sleeps-by sleeps (last - 1) (omega (arith, more)) (omega (arith, more, ends)) in
           let same : suc (last - 1) ≡ last = omega (arith, more) in
           let here : (view_of run last).boundary ≡ true =
-          ap (λ (sight : Sight). sight.boundary) view
-          ∙ subst (λ (at : ℕ). (sight_at run at).boundary ≡ true) same slept.sleeps.to in
+          rw view (rw same at slept.sleeps.to) in
           let first : SleepsOn run place =
           sleeps-by sleeps place (omega arith) (omega (arith, more, ends)) in
           let level : (view_of run last).level ≡ begun.level =
-          ap (λ (sight : Sight). sight.level) view
-          ∙ level-by sleeps last later (omega (arith, ends))
-          ∙ sym (level-there first.sleeps.from) in
-          subst (λ (level : ℕ). KeepsBehind stops.watches run last (stretch_from last level)) level
-          (keeps-none stops.watches run last here)
+          rw view (level-by sleeps last later (omega (arith, ends))
+          ∙ sym (level-there first.sleeps.from)) in
+          rw level at (keeps-none stops.watches run last here)
 
       keeps-later : place < last
           → KeepsTelling stops asleep run last (stretch_from last begun.level)
@@ -301,12 +295,7 @@ module _ (stops : Stops) (asleep : Bool) (run : Run) (place end : ℕ) (was : St
           → (stretch_of_last begun place last).boots ≡ false
       unbooted by sleeps =
           of-last (λ (stretch : Stretch). stretch.boots ≡ false)
-          (λ same.
-          ap (λ (stretch : Stretch). stretch.boots)
-          (cond-true (sight_at run place).boundary
-          (stretch_from place (sight_at run place).level) was
-          (subst (λ (at : ℕ). (sight_at run at).boundary ≡ true) same
-          (by.sleeps sleeps).sleeps.from)))
+          (λ same. rw (rw same at (by.sleeps sleeps).sleeps.from) refl)
           (λ more. refl)
 
       tells-last : (kept : Bool) → (kept ≡ false → GoesBy stops asleep run last)

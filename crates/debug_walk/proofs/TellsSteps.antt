@@ -1,7 +1,7 @@
 -- What tells why to stop, with one step more.
 use Rattle.std.proofs.Common.{◌≡◌, ◌<◌, ◌≤◌, ◌-◌, ◌∙◌, ◌⊎◌, ⊎_elim, inl, inr, ℕ, suc, Bool, true, false, List, [], ◌∷◌, ◌++◌, Option, None, Some, length, refl, ap, sym, subst, arith}
 use Rattle.std.specs.{Option.option_or, Prelude.{◌==◌, ◌&&◌, ◌||◌}}
-use Rattle.std.proofs.lemmas.Bool.{cases_Bool, cond-false, cond-true, false≢true}
+use Rattle.std.proofs.lemmas.Bool.{cases_Bool, false≢true}
 use Rattle.std.proofs.lemmas.Bool.Decides.{nat_tests}
 use Rattle.std.proofs.lemmas.List.{length_push}
 use Rattle.device_types.specs.{Kind.is_boot, declared.{bus_record.BusRecord.BusRecord, kind.Kind.{Kind, TheVariants.Idle}, rule.Rule.Rule}}
@@ -37,13 +37,8 @@ module _ (stops : Stops) (asleep : Bool) (run : Run) (place : ℕ) (within : pla
     tells-begun here =
         let keeps : KeepsBehind stops.watches run place
         (stretch_from place (view_of run place).level) =
-        keeps-none stops.watches run place
-        (ap (λ (sight : Sight). sight.boundary) view-here ∙ here) in
-        subst (KeepsTelling stops asleep run place)
-        (ap (λ (sight : Sight). stretch_from place sight.level) view-here
-        ∙ sym (cond-true (sight_at run place).boundary
-        (stretch_from place (sight_at run place).level) was here))
-        (record {
+        keeps-none stops.watches run place (rw view-here here) in
+        rw (here, ← view-here) (record {
           begun = inr (omega arith);
           few = keeps.few;
           first = keeps.first;
@@ -55,13 +50,9 @@ module _ (stops : Stops) (asleep : Bool) (run : Run) (place : ℕ) (within : pla
         → TellsCause stops asleep run place was
         → KeepsTelling stops asleep run place (stretch_there run place was)
     tells-kept none tells =
-        let nothing : (view_of run place).boundary ≡ false =
-        ap (λ (sight : Sight). sight.boundary) view-here ∙ none in
+        let nothing : (view_of run place).boundary ≡ false = rw view-here none in
         let kept = sym (kept-all run place nothing) in
-        subst (KeepsTelling stops asleep run place)
-        (sym (cond-false (sight_at run place).boundary
-        (stretch_from place (sight_at run place).level) was none))
-        (record {
+        rw none (record {
           begun = ⊎_elim (λ (first : was.place ≡ 0). inl first)
               (λ (earlier : was.place < place). inr (omega (arith, earlier))) tells.begun;
           few = rw (← kept) (behind-few run place);

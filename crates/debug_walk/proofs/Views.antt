@@ -1,5 +1,5 @@
 -- What a device shows in the middle of a run is what the place has where it stands.
-use Rattle.std.proofs.Common.{◌≡◌, ℕ, suc, Bool, List, Some, subst}
+use Rattle.std.proofs.Common.{◌≡◌, ℕ, suc, Bool, List, Some}
 use Rattle.device_types.specs.{TraceFlag.Flag, declared.bus_record.BusRecord.BusRecord}
 use Rattle.hmac_core.specs.Hash.{Hash}
 use Rattle.device_trace.specs.{Logs.{Logs, aux_of, exec_of}, Progress.{last_registers, stands_at_boundary}, Start.Start, Trace.{last_record, logs_after, trace}}
@@ -34,8 +34,7 @@ module _ {D G : Type 0} {hash : Hash D} {flag : Flag G} {live : Live D G} {playb
       → step_at run place ≡ entry
   last-entry place entry made last =
       entry-at run place entry
-      (subst (λ count. last_record (trace run.start (play_to run count)) ≡ Some entry) made
-      (last run.start (play_to run (steps_made live)) midway.stands))
+      (rw made at (last run.start (play_to run (steps_made live)) midway.stands))
 
   pub boundary-at : (here : Bool)
       → OfLive hash flag live (λ start play.

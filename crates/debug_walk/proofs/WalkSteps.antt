@@ -1,12 +1,12 @@
 -- What a walk keeps where it makes a step.
-use Rattle.std.proofs.Common.{◌≡◌, ◌≤◌, ◌∙◌, ◌⊎◌, ⊎_elim, ℕ, Bool, true, false, List, is_some, ap, sym, subst, arith}
+use Rattle.std.proofs.Common.{refl, ◌≡◌, ◌≤◌, ◌∙◌, ◌⊎◌, ⊎_elim, ℕ, true, false, List, is_some, sym, arith}
 use Rattle.std.specs.Prelude.{◌==◌}
-use Rattle.std.proofs.lemmas.Bool.{cases_Bool, cond-false, cond-true, false≢true}
+use Rattle.std.proofs.lemmas.Bool.{cases_Bool, false≢true}
 use Rattle.std.proofs.lemmas.Bool.Decides.{nat_tests}
 use Rattle.device_core.specs.{Device.{HasStepped, machine_of}, declared.live.Live.Live}
-use Rattle.debug_session.specs.{Request.most_steps, Place.{Run, sight_at, view_of}, Sight.Sight, declared.watch.Watch.Watch}
+use Rattle.debug_session.specs.{Request.most_steps, Place.{Run, sight_at}, declared.watch.Watch.Watch}
 use Rattle.debug_session.proofs.Views.{view-at}
-use Rattle.debug_walk.specs.{Stretch.stretch_from, Walk.{IsStretch, stretch_behind, stretch_past, stretch_there}, declared.stretch.Stretch.Stretch}
+use Rattle.debug_walk.specs.{Walk.{IsStretch, stretch_behind, stretch_past, stretch_there}, declared.stretch.Stretch.Stretch}
 use Rattle.debug_walk.proofs.StretchSteps.{KeepsBehind, keeps-all, keeps-none}
 
 -- the stretch to which the step at a place belongs keeps what lies behind
@@ -16,22 +16,14 @@ module _ (watches : List Watch) (run : Run) (place : ℕ) (within : place ≤ mo
     there-begun : (sight_at run place).boundary ≡ true
         → KeepsBehind watches run place (stretch_there run place was)
     there-begun here =
-        let view : view_of run place ≡ sight_at run place = view-at run place within in
-        subst (KeepsBehind watches run place)
-        (ap (λ (sight : Sight). stretch_from place sight.level) view
-        ∙ sym (cond-true (sight_at run place).boundary
-        (stretch_from place (sight_at run place).level) was here))
-        (keeps-none watches run place (ap (λ (sight : Sight). sight.boundary) view ∙ here))
+        let view = view-at run place within in
+        rw (here, ← view) (keeps-none watches run place (rw view here))
 
     there-kept : (sight_at run place).boundary ≡ false
         → IsStretch watches run place was
         → KeepsBehind watches run place (stretch_there run place was)
     there-kept none is =
-        let view : view_of run place ≡ sight_at run place = view-at run place within in
-        subst (KeepsBehind watches run place)
-        (sym (cond-false (sight_at run place).boundary
-        (stretch_from place (sight_at run place).level) was none))
-        (keeps-all watches run place was (ap (λ (sight : Sight). sight.boundary) view ∙ none) is)
+        rw none (keeps-all watches run place was (rw (view-at run place within) none) is)
 
     pub keeps-there : ((sight_at run place).boundary ≡ true) ⊎ IsStretch watches run place was
         → KeepsBehind watches run place (stretch_there run place was)
@@ -49,6 +41,4 @@ pub kept-one : {D G : Type 0} (watches : List Watch) (run : Run) (place : ℕ) (
     ≡ stretch_past watches run place there
 kept-one watches run place there live kept =
     let same : (place == place) ≡ true = grind (arith, nat_tests) in
-    ap (λ (seen : Bool). stretch_behind watches run place there place seen) kept
-    ∙ ap (stretch_past watches run place)
-    (cond-true (place == place) there (stretch_from place there.level) same)
+    rw (kept, same) refl
