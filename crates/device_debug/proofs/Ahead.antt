@@ -1,7 +1,7 @@
 -- A walk forwards stops at the first place with a cause, and sees a refusal behind it.
 use Rattle.std.proofs.Common.{◌≡◌, ◌≤◌, ◌<◌, ◌+◌, ◌-◌, ◌∙◌, ◌⊎◌, inl, inr, ⊎_elim, ℕ, zero, suc, Bool, true, false, List, [], Option, Some, None, length, is_some, refl, ap, sym, subst, arith}
 use Rattle.std.specs.Prelude.{nat_lt, if◌then◌else◌}
-use Rattle.std.proofs.lemmas.Bool.{cases_Bool, cases_lt, cond-false, cond-true, false≢true, lt-ltb, ltb-true}
+use Rattle.std.proofs.lemmas.Bool.{cases_Bool, cases_lt, cond-true, false≢true, lt-ltb, ltb-true}
 use Rattle.device_types.specs.declared.rule.Rule.{Rule}
 use Rattle.debug_session.specs.{Request.most_steps, declared.{command.Way.TheVariants.Ahead, stop.Stop.{Stop, TheVariants.{End, Refused}}, watch.Hit.Hit}, Stops.Stops, Cause.{Step, ahead, behind, cause, cause_here, hit_on, hits, is_plain, refusal, refusal_or, steps_over, stop_of}, Going.first_stop, Session.refused_step, Sight.{Sight, View}}
 use Rattle.debug_session.proofs.Scans.{first-at, first-none}
@@ -27,6 +27,15 @@ stops-refused None false false rule none = refl
 some-or-none : (rule : Option Rule) → (rule ≡ None) ⊎ ((one : Rule) × (rule ≡ Some one))
 some-or-none None = inl refl
 some-or-none (Some rule) = inr (rule, refl)
+
+-- what holds up to a number and at it
+pub up-to : (Holds : ℕ → Type 0) (at last : ℕ) → at < suc last → (at < last → Holds at)
+    → Holds last → Holds at
+up-to Holds at last before less here =
+    ⊎_elim less
+    (λ (over : last ≤ at).
+    let same : last ≡ at = omega (arith, over, before) in subst Holds same here)
+    (cases_lt at last)
 
 either-boundary : (here : Bool) (one other : Option Stop) → (here ≡ true → one ≡ other)
     → (if here then one else None) ≡ (if here then other else None)
@@ -72,20 +81,13 @@ module _ (view : View) (from : ℕ) where
       → last_boundary view from at ≡ Some at
   last-here zero past here = absurd (omega (arith, past))
   last-here (suc before) past here =
-      cond-true (view (suc before)).boundary (place_past from (suc before))
-      (if is_some (view before).next.refused then None else last_boundary view from before) here
-      ∙ cond-true (nat_lt from (suc before)) (Some (suc before)) None
-      (lt-ltb from (suc before) past)
+      rw (here, lt-ltb from (suc before) past) refl
 
   last-behind : (here at : ℕ) → (view (suc here)).boundary ≡ false
       → (view here).next.refused ≡ None → last_boundary view from here ≡ Some at
       → last_boundary view from (suc here) ≡ Some at
   last-behind here at none unrefused is =
-      cond-false (view (suc here)).boundary (place_past from (suc here))
-      (if is_some (view here).next.refused then None else last_boundary view from here) none
-      ∙ ap (λ (rule : Option Rule). if is_some rule then None else last_boundary view from here)
-      unrefused
-      ∙ is
+      rw (none, unrefused) is
 
   -- a step ahead of a boundary is refused before the next one
   record IsRefusedAhead (at last : ℕ) (rule : Rule) : Type 0 where
@@ -99,12 +101,9 @@ module _ (view : View) (from : ℕ) where
   since-more : (at here : ℕ) → (view (suc here)).boundary ≡ false → NoneSince at here
       → NoneSince at (suc here)
   since-more at here none since =
-      λ one past until. ⊎_elim
-      (λ (less : one < suc here). since one past (omega (arith, less)))
-      (λ (over : suc here ≤ one).
-      let same : suc here ≡ one = omega (arith, over, until) in
-      subst (λ (place : ℕ). (view place).boundary ≡ false) same none)
-      (cases_lt one (suc here))
+      λ one past until. up-to (λ (place : ℕ). (view place).boundary ≡ false) one (suc here)
+      (omega (arith, until))
+      (λ less. since one past (omega (arith, less))) none
 
   search-ahead : (steps here at : ℕ) (rule : Rule) → at ≤ here
       → last_boundary view from here ≡ Some at → NoneSince at here
@@ -114,19 +113,14 @@ module _ (view : View) (from : ℕ) where
   search-ahead (suc steps) here at rule behind_is boundary_is since is =
       ⊎_elim
       (λ (none : (view here).next.refused ≡ None).
-      let deeper : refusal (later_at here steps) ≡ Some rule =
-      subst
-      (λ (one : Option Rule). refusal_or one (refusal (later_at here steps)) ≡ Some rule)
-      none is in
+      let deeper = rw none at is in
       ⊎_elim
       (λ (ends : (view (suc here)).boundary ≡ true).
-      absurd (cc (sym deeper ∙ ap refusal
-      (cond-true (view (suc here)).boundary [] (ahead view (suc here) steps) ends))))
+      let nothing : None ≡ Some rule = rw ends at deeper in absurd (cc (nothing)))
       (λ (goes : (view (suc here)).boundary ≡ false).
       let more = search-ahead steps (suc here) at rule (omega (arith, behind_is))
       (last-behind here at goes none boundary_is) (since-more at here goes since)
-      (sym (ap refusal
-      (cond-false (view (suc here)).boundary [] (ahead view (suc here) steps) goes)) ∙ deeper) in
+      (rw goes at deeper) in
       record {
         step = more.step;
         from_here = more.from_here;
@@ -173,8 +167,8 @@ module _ (view : View) (from : ℕ) where
         from_here = behind_is;
         settled = settled;
         none_since = since;
-        told = subst (λ (one : ℕ). refusal (ahead view here one) ≡ Some rule) count told;
-        number = subst (λ (one : ℕ). refused_step view here one ≡ step) count number;
+        told = rw count at told;
+        number = rw count at number;
       })
 
   search-back : (here steps at last step : ℕ) (rule : Rule) → last ≡ steps + here → here ≤ step
@@ -185,32 +179,17 @@ module _ (view : View) (from : ℕ) where
   search-back zero steps at last step rule same behind_is is told number since =
       absurd (cc (is))
   search-back (suc before) steps at last step rule same behind_is is told number since =
-      let earlier : Option ℕ =
-      if is_some (view before).next.refused then None else last_boundary view from before in
       ⊎_elim
       (λ (here : (view (suc before)).boundary ≡ true).
       told-at (suc before) steps at last step rule same behind_is here
-      (sym (cond-true (view (suc before)).boundary (place_past from (suc before)) earlier here)
-      ∙ is)
-      told number since)
+      (rw here at is) told number since)
       (λ (goes : (view (suc before)).boundary ≡ false).
-      let there : earlier ≡ Some at =
-      sym (cond-false (view (suc before)).boundary (place_past from (suc before)) earlier goes)
-      ∙ is in
+      let there = rw goes at is in
       ⊎_elim
       (λ (none : (view before).next.refused ≡ None).
       search-back before (suc steps) at last step rule (omega (arith, same))
       (omega (arith, behind_is))
-      (subst
-      (λ (one : Option Rule).
-      (if is_some one then None else last_boundary view from before) ≡ Some at) none there)
-      (ap (λ (one : Option Rule). refusal_or one (refusal (later_at before steps))) none
-      ∙ ap refusal
-      (cond-false (view (suc before)).boundary [] (ahead view (suc before) steps) goes)
-      ∙ told)
-      (ap (λ (one : Option Rule).
-      if is_some one then before else refused_step view (suc before) steps) none
-      ∙ number)
+      (rw none at there) (rw (none, goes) told) (rw none number)
       (λ one past until. ⊎_elim
       (λ (next : suc before < one). since one next until)
       (λ (not_next : one ≤ suc before).
@@ -218,9 +197,7 @@ module _ (view : View) (from : ℕ) where
       subst (λ (place : ℕ). (view place).boundary ≡ false) here goes)
       (cases_lt (suc before) one)))
       (λ (some : (one : Rule) × ((view before).next.refused ≡ Some one)).
-      absurd (cc (subst
-      (λ (one : Option Rule).
-      (if is_some one then None else last_boundary view from before) ≡ Some at) some.1 there)))
+      let nothing : None ≡ Some at = rw some.1 at there in absurd (cc (nothing)))
       (some-or-none (view before).next.refused))
       (cases_Bool (view (suc before)).boundary)
 

@@ -1,7 +1,7 @@
 -- A walk that stands where going back leads.
-use Rattle.std.proofs.Common.{◌≡◌, ◌≤◌, ◌<◌, inl, ℕ, true, Option, Some, None, refl, subst, sym, arith}
+use Rattle.std.proofs.Common.{◌≡◌, ◌≤◌, ◌<◌, inl, ℕ, true, Option, Some, None, refl, arith}
 use Rattle.hmac_core.specs.Hash.{Hash}
-use Rattle.debug_session.specs.{Request.most_steps, Cause.Step, Going.{Standing, interrupted, last_stop}, Place.{Run, sight_at, view_of}, Sight.Sight, Stops.Stops, declared.stop.Stop.{Stop, TheVariants.{Begin, Interrupted}}}
+use Rattle.debug_session.specs.{Request.most_steps, Cause.Step, Going.{Standing, interrupted, last_stop}, Place.{Run, view_of}, Stops.Stops, declared.stop.Stop.{Stop, TheVariants.{Begin, Interrupted}}}
 use Rattle.debug_link.specs.Conversation.{HaveCome, count_of}
 use Rattle.debug_session.proofs.{Scans.last-none, Views.view-at}
 use Rattle.debug_walk.specs.{Copies.{IsAt, IsBegun}, Walk.place_of, declared.walk.Walk.Walk}
@@ -12,8 +12,7 @@ module _ {D : Type 0} (hash : Hash D) (run : Run) where
   arrives-first : (now : Standing) (walk : Walk D) → now ≡ record { place = 1; stop = Begin }
       → IsBegun hash run walk → place_of walk ≡ 1 → HasArrived hash run now walk Begin
   arrives-first now walk is begun place_is =
-      subst (λ (one : Standing). HasArrived hash run one walk Begin) (sym is)
-      (record {
+      rw is (record {
         stands = record {
           walks = begun.walks;
           place_is = place_is;
@@ -23,20 +22,17 @@ module _ {D : Type 0} (hash : Hash D) (run : Run) where
         stop_is = refl;
       })
 
-  arrives-there : (now : Standing) (walk : Walk D) (place : ℕ) (stop : Stop)
+  pub arrives-there : (now : Standing) (walk : Walk D) (place : ℕ) (stop : Stop)
       → now ≡ record { place = place; stop = stop }
       → IsAt hash run place walk → place ≤ most_steps → (view_of run place).boundary ≡ true
       → HasArrived hash run now walk stop
   arrives-there now walk place stop is at within here =
-      subst (λ (one : Standing). HasArrived hash run one walk stop) (sym is)
-      (record {
+      rw is (record {
         stands = record {
           walks = at.walks;
           place_is = at.place_is;
           within = within;
-          settled = inl (inl (subst (λ (one : ℕ). (sight_at run one).boundary ≡ true)
-              (sym at.place_is)
-              (subst (λ (sight : Sight). sight.boundary ≡ true) (view-at run place within) here)));
+          settled = inl (inl (rw at.place_is (rw (view-at run place within) at here)));
         };
         stop_is = refl;
       })
@@ -57,22 +53,13 @@ module _ {D : Type 0} (hash : Hash D) (run : Run) where
     back-interrupted walk came stands = (
       Some from,
       came,
-      subst (λ (one : Standing). HasArrived hash run one walk Interrupted)
-          (sym (interrupted-here (view_of run) from aim))
-          (record { stands = stands; stop_is = refl }),
+      rw (interrupted-here (view_of run) from aim) (record { stands = stands; stop_is = refl }),
     )
 
     of-end : (walk : Walk D) (stop : Stop) → HaveCome 0 left left_new
         → HasArrived hash run (last_stop (cause_back run stops step end) end) walk stop
         → ArrivesBack walk stop
-    of-end walk stop came arrived = (
-      None,
-      came,
-      subst
-          (λ (one : ℕ). HasArrived hash run (last_stop (cause_back run stops step one) one) walk
-          stop)
-          same arrived,
-    )
+    of-end walk stop came arrived = (None, came, rw same at arrived)
 
     -- there is no place before it
     pub back-begun : (walk : Walk D) → HaveCome 0 left left_new → end ≤ 1
@@ -92,7 +79,7 @@ module _ {D : Type 0} (hash : Hash D) (run : Run) where
         of-end walk Begin came
         (arrives-first (last_stop (cause_back run stops step end) end) walk
         (found-none run stops step end
-        (subst (NoneBehind run stops step end) none_left none)) begun place_is)
+        (rw none_left at none)) begun place_is)
 
     -- the last with a cause
     pub back-found : (walk : Walk D) (begin last place : ℕ) (stop : Stop)
