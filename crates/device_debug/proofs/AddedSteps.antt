@@ -1,5 +1,5 @@
 -- The texts of steps that are added to a text for the console, one after the other.
-use Rattle.std.proofs.Common.{◌≡◌, ◌≤◌, ◌<◌, ◌+◌, ◌-◌, ◌∙◌, ◌++◌, ℕ, zero, suc, List, Result, IsErr, ap, sym, subst, arith, append_assoc}
+use Rattle.std.proofs.Common.{◌≡◌, ◌≤◌, ◌<◌, ◌+◌, ◌-◌, ◌∙◌, ◌++◌, ℕ, zero, suc, List, Result, IsErr, ap, sym, arith, append_assoc}
 use Rattle.std.proofs.lemmas.List.{append-nil}
 use Rattle.outside_edge.specs.declared.sink.Sink as sink
 use Rattle.debug_link.specs.{Console.{AddsText, HasAdded}, Writing.PacketSink}
@@ -7,19 +7,6 @@ use Rattle.debug_link.proofs.AddedText.{PutsPrefix, added_both, added_none, adds
 use Rattle.debug_session.specs.{Monitor.texts_from, Sight.{StepSight, View}}
 
 module _ (view : View) (text_of : StepSight → List ℕ) where
-  -- the text of one step more
-  texts-more : (from steps place : ℕ) → place ≡ steps + from
-      → texts_from view text_of from (suc steps)
-      ≡ texts_from view text_of from steps ++ text_of (view place).next
-  texts-more from zero place is =
-      let same : from ≡ place = omega (arith, is) in
-      append-nil (text_of (view from).next) ∙ ap (λ (at : ℕ). text_of (view at).next) same
-  texts-more from (suc steps) place is =
-      ap (λ (rest : List ℕ). text_of (view from).next ++ rest)
-      (texts-more (suc from) steps place (omega (arith, is)))
-      ∙ sym (append_assoc (text_of (view from).next) (texts_from view text_of (suc from) steps)
-      (text_of (view place).next))
-
   -- the texts of a way that is cut in two
   texts-both : (from one two all mid : ℕ) → all ≡ one + two → mid ≡ one + from
       → texts_from view text_of from all
@@ -27,8 +14,7 @@ module _ (view : View) (text_of : StepSight → List ℕ) where
   texts-both from zero two all mid sum at =
       let same : all ≡ two = omega (arith, sum) in
       let here : from ≡ mid = omega (arith, at) in
-      ap (texts_from view text_of from) same
-      ∙ ap (λ (place : ℕ). texts_from view text_of place two) here
+      λ i. texts_from view text_of (here i) (same i)
   texts-both from (suc one) two zero mid sum at = absurd (omega (arith, sum))
   texts-both from (suc one) two (suc all) mid sum at =
       ap (λ (rest : List ℕ). text_of (view from).next ++ rest)
@@ -61,12 +47,12 @@ module _ {W : Type 0} (w : sink.Ghosts W) (view : View) (text_of : StepSight →
       → IsAddedTo old new rest rest_new from until next
   one_step_added old mid new rest rest_mid rest_new text from until place next below after is first
       step =
-      let count : next - from ≡ suc (place - from) = omega (arith, first.passed, after) in
       let whole : texts_from view text_of from (next - from)
       ≡ texts_from view text_of from (place - from) ++ text =
-      ap (texts_from view text_of from) count
-      ∙ texts-more view text_of from (place - from) place (omega (arith, first.passed))
-      ∙ ap (λ (one : List ℕ). texts_from view text_of from (place - from) ++ one) (sym is) in
+      texts-both view text_of from (place - from) 1 (next - from) place
+      (omega (arith, first.passed, after)) (omega (arith, first.passed))
+      ∙ ap (λ (one : List ℕ). texts_from view text_of from (place - from) ++ one)
+      (append-nil (text_of (view place).next) ∙ sym is) in
       record {
         passed = omega (arith, first.passed, after);
         within = omega (arith, below, after);
@@ -80,9 +66,7 @@ module _ {W : Type 0} (w : sink.Ghosts W) (view : View) (text_of : StepSight →
       → HasAdded w old new rest (texts_from view text_of from (until - from)) rest_new
   all_added old new rest rest_new from until place end so =
       let same : place ≡ until = omega (arith, so.within, end) in
-      subst
-      (λ (one : ℕ). HasAdded w old new rest (texts_from view text_of from (one - from)) rest_new)
-      same so.added
+      rw same at so.added
 
   -- a call failed at the step of a place
   pub step_failed : {V E : Type 0} (old mid new : PacketSink W) (rest rest_mid rest_new : List ℕ)

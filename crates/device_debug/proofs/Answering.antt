@@ -1,5 +1,5 @@
 -- What a debugger answers, wherever its session stands.
-use Rattle.std.proofs.Common.{◌≡◌, ◌∙◌, ℕ, Bool, true, false, List, [], ◌∷◌, Option, Some, None, Result, Ok, Err, IsErr, refl, ap, sym, subst}
+use Rattle.std.proofs.Common.{◌≡◌, ◌∙◌, ℕ, Bool, true, false, List, [], ◌∷◌, Option, Some, None, Result, Ok, Err, IsErr, refl, ap, sym}
 use Rattle.std.specs.Prelude.{MatchOption, codes, if◌then◌else◌}
 use Rattle.std.proofs.lemmas.Option.{same_Some}
 use Rattle.hmac_core.specs.Hash.{Hash}
@@ -18,9 +18,7 @@ module _ {D : Type 0} (hash : Hash D) where
       → debugger.halted ≡ Some halted → DebuggerStandsFor hash debugger session
       → StandsAt hash (run_at hash debugger) session.place halted
   halted-here debugger session halted is stands =
-      subst (λ (one : Walk D).
-      StandsAt hash (run_at hash debugger) session.place one)
-      (same_Some stands.halted halted (sym stands.halted_is ∙ is)) stands.stands
+      rw (same_Some stands.halted halted (sym stands.halted_is ∙ is)) at stands.stands
 
   -- so what holds of the device's place holds of the session's
   pub holds-here : (debugger : Debugger D) (session : Session) (halted : Walk D)
@@ -29,8 +27,7 @@ module _ {D : Type 0} (hash : Hash D) where
       → OfWalk hash halted holds → holds (run_at hash debugger) session.place
   holds-here debugger session halted holds is stands of_halted =
       let here = halted-here debugger session halted is stands in
-      subst (λ (place : ℕ). holds (run_at hash debugger) place) here.place_is
-      (of_halted (run_at hash debugger) here.walks)
+      rw here.place_is at (of_halted (run_at hash debugger) here.walks)
 
   -- with other stops it stands for a session with other stops
   pub other-stops : (debugger : Debugger D) (session : Session) (one other : Stops)
@@ -166,9 +163,7 @@ module _ {D W : Type 0} (hash : Hash D) (w : sink.Ghosts W) where
   behind-change old new before changed after change answer said result run stands same gives =
       record {
         answers = λ session here.
-            subst (λ (one : Answer Session).
-            Answers (DebuggerStandsFor hash) w old new after one result) (same session here)
-            (gives.answers (change session) (stands session here));
+            rw (same session here) at (gives.answers (change session) (stands session here));
         same_run = gives.same_run ∙ run;
       }
 
@@ -184,38 +179,7 @@ module _ {D W : Type 0} (hash : Hash D) (w : sink.Ghosts W) where
       (λ session stands. stands)
       (λ session stands. ap (λ (one : List ℕ). says session one) (same session stands)) gives
 
-  -- it was said that the stops couldn't change
-  stops-kept : (old new : PacketSink W) (debugger after : Debugger D) (stops : Stops)
-      (asked : Stops → Option Stops) (result : Result Connection AnswerFault)
-      → asked debugger.stops ≡ None → stops ≡ debugger.stops
-      → Gives hash w old new (record debugger { stops = stops }) after
-      (λ session. says session (codes "E01")) result
-      → Gives hash w old new debugger after
-      (λ session. with_stops session (asked session.stops)) result
-  stops-kept old new debugger after stops asked result none is gives =
-      behind-change old new debugger (record debugger { stops = stops }) after
-      (λ session. session) (λ session. with_stops session (asked session.stops))
-      (λ session. says session (codes "E01")) result refl
-      (λ session stands. other-stops hash debugger session stops session.stops
-      (is ∙ stands.stops) stands)
-      (λ session stands. ap (with_stops session) (sym none ∙ ap asked stands.stops)) gives
-
-  stops-fit : (old new : PacketSink W) (debugger after : Debugger D) (stops found : Stops)
-      (asked : Stops → Option Stops) (result : Result Connection AnswerFault)
-      → asked debugger.stops ≡ Some found → stops ≡ found
-      → Gives hash w old new (record debugger { stops = stops }) after
-      (λ session. says session (codes "OK")) result
-      → Gives hash w old new debugger after
-      (λ session. with_stops session (asked session.stops)) result
-  stops-fit old new debugger after stops found asked result some is gives =
-      behind-change old new debugger (record debugger { stops = stops }) after
-      (λ session. record session { stops = found })
-      (λ session. with_stops session (asked session.stops))
-      (λ session. says session (codes "OK")) result refl
-      (λ session stands. other-stops hash debugger session stops found is stands)
-      (λ session stands. ap (with_stops session) (sym some ∙ ap asked stands.stops)) gives
-
-  -- it was said whether they did
+  -- it was said whether the stops could change
   stops-said : (old new : PacketSink W) (debugger after : Debugger D) (stops : Stops)
       (asked : Stops → Option Stops) (found : Option Stops) (is_set : Bool)
       (result : Result Connection AnswerFault)
@@ -227,9 +191,21 @@ module _ {D W : Type 0} (hash : Hash D) (w : sink.Ghosts W) where
       → Gives hash w old new debugger after
       (λ session. with_stops session (asked session.stops)) result
   stops-said old new debugger after stops asked None is_set result found is gives =
-      stops-kept old new debugger after stops asked result found is.1 (rw is.0 at gives)
+      behind-change old new debugger (record debugger { stops = stops }) after
+      (λ session. session) (λ session. with_stops session (asked session.stops))
+      (λ session. says session (codes "E01")) result refl
+      (λ session stands. other-stops hash debugger session stops session.stops
+      (is.1 ∙ stands.stops) stands)
+      (λ session stands. ap (with_stops session) (sym found ∙ ap asked stands.stops))
+      (rw is.0 at gives)
   stops-said old new debugger after stops asked (Some other) is_set result found is gives =
-      stops-fit old new debugger after stops other asked result found is.1 (rw is.0 at gives)
+      behind-change old new debugger (record debugger { stops = stops }) after
+      (λ session. record session { stops = other })
+      (λ session. with_stops session (asked session.stops))
+      (λ session. says session (codes "OK")) result refl
+      (λ session stands. other-stops hash debugger session stops other is.1 stands)
+      (λ session stands. ap (with_stops session) (sym found ∙ ap asked stands.stops))
+      (rw is.0 at gives)
 
   pub stops-asked : (old new : PacketSink W) (debugger after : Debugger D) (stops : Stops)
       (asked : Stops → Option Stops) (is_set : Bool) (result : Result Connection AnswerFault)
@@ -255,9 +231,7 @@ module _ {D W : Type 0} (hash : Hash D) (w : sink.Ghosts W) where
           → Answers (StandsInRun hash) w old new after
           (in_run now.run (answer now.run now.session)) result
       answered-in_run answer (Ok connection) now stands is =
-          let answers = subst
-          (λ (run : Run). Answers (DebuggerStandsFor hash) w old new after.debugger
-          (answer run now.session) (Ok connection)) stands.0 is in
+          let answers = rw stands.0 at is in
           record {
             all = record {
               connection_is = answers.all.connection_is;
@@ -269,9 +243,7 @@ module _ {D W : Type 0} (hash : Hash D) (w : sink.Ghosts W) where
       answered-in_run answer (Err fault) now stands is =
           record {
             all = tt;
-            prefix = (subst
-                (λ (run : Run). Answers (DebuggerStandsFor hash) w old new after.debugger
-                (answer run now.session) (Err fault)) stands.0 is).prefix;
+            prefix = (rw stands.0 at is).prefix;
           }
 
   -- and so a body is

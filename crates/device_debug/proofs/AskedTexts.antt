@@ -1,5 +1,5 @@
 -- The texts that a user asks for, as they are put.
-use Rattle.std.proofs.Common.{◌≡◌, ◌++◌, List, [], ℕ, Result, IsErr, subst}
+use Rattle.std.proofs.Common.{◌≡◌, ◌++◌, List, [], ℕ, Result, IsErr}
 use Rattle.outside_edge.specs.declared.sink.Sink as sink
 use Rattle.debug_link.specs.{Console.{HasAdded, console}, Writing.{PacketSink, PutsPackets}}
 use Rattle.debug_link.proofs.AddedText.{PutsPrefix, added_both, prefix_behind, prefix_end, text_finished, texts_failed}
@@ -11,7 +11,7 @@ module _ {W : Type 0} (w : sink.Ghosts W) where
       → text ≡ asked → PutsPackets w old new (console text) result
       → PutsPackets w old new (console asked) result
   asked-put old new text asked result same puts =
-      subst (λ (one : List ℕ). PutsPackets w old new (console one) result) same puts
+      rw same at puts
 
   -- texts of steps, and an end
   module _ (texts end : List ℕ) where

@@ -5,9 +5,10 @@ use Rattle.std.specs.Option.{option_or}
 use Rattle.std.proofs.lemmas.Bool.{cases_lt, cond-true, cond-false, false≢true}
 use Rattle.device_types.specs.{declared.{kind.Kind.{Kind, TheVariants.Idle}, rule.Rule.Rule}, Kind.{is_boot, is_cpu, is_rom}}
 use Rattle.part_definitions.specs.CpuRegister.{pc_of}
-use Rattle.debug_session.specs.{Request.most_steps, declared.{command.Way.TheVariants.Back, stop.Stop.{Stop, TheVariants.Begin}}, Stops.Stops, Watched.last_hit, Cause.{Step, ahead, begins_within, behind, boots, cause, hit_on, hits, is_plain, is_within, refusal, refusal_or, steps_over, stop_of}, Going.last_stop, Place.{Run, sight_at, view_of}, Sight.{Sight, View}}
+use Rattle.debug_session.specs.{Request.most_steps, declared.{command.Way.TheVariants.Back, stop.Stop.{Stop, TheVariants.Begin}}, Stops.Stops, Watched.last_hit, Cause.{Step, ahead, begins_within, behind, boots, cause, hit_on, hits, is_plain, is_within, refusal, refusal_or, steps_over, stop_of}, Going.last_stop, Place.{Run, view_of}, Sight.{Sight, View}}
 use Rattle.debug_session.proofs.{Scans.{last-at, last-none}, Stretches.ahead-behind, Views.view-at}
-use Rattle.debug_walk.specs.{Passing.{IsSilent, Sleeps}, Walk.{IsStretch, first_refused}, declared.stretch.Stretch.Stretch}
+use Rattle.debug_walk.specs.{Passing.{IsSilent, Sleeps}, Walk.IsStretch, declared.stretch.Stretch.Stretch}
+use Rattle.debug_walk.proofs.StretchSteps.{told-refused}
 use Rattle.device_debug.specs.{Back.{IsLastBehind, stop_with_place, seek_back}, Seek.{cause_before, steps_by}}
 
 -- the last place with a cause, of those behind a place and before another one
@@ -94,12 +95,6 @@ pub plain-none : (here plain : Bool) → (here && plain) ≡ false → here ≡ 
 plain-none true plain none is = none
 plain-none false plain none is = absurd (false≢true is)
 
-refused-more : (refused first later : Option Rule)
-    → refusal_or first None ≡ later
-    → refusal_or (option_or refused first) None ≡ refusal_or refused later
-refused-more (Some rule) first later same = refl
-refused-more None first later same = same
-
 module _ (run : Run) (stops : Stops) (step : Option Step) (from : ℕ) where
   abbrev pub view : View
   view = view_of run
@@ -125,11 +120,6 @@ module _ (run : Run) (stops : Stops) (step : Option Step) (from : ℕ) where
   pub no-boundary : (at : ℕ) → (view at).boundary ≡ false → cause_back at ≡ None
   no-boundary at none =
       cond-false (view at).boundary (cause_with (view at) at (ahead view at (from - at))) None none
-
-  refused-told : (sights : List Sight) → refusal_or (first_refused sights) None ≡ refusal sights
-  refused-told [] = refl
-  refused-told (sight ∷ sights) =
-      refused-more sight.next.refused (first_refused sights) (refusal sights) (refused-told sights)
 
   -- what is kept of a stretch is what a step goes over
   steps-same : (one : Option Step) (stretch : Stretch) (here : Sight) (between : List Sight)
@@ -160,24 +150,19 @@ module _ (run : Run) (stops : Stops) (step : Option Step) (from : ℕ) where
       cause-ahead here way settled all
       ∙ sym (λ i. stop_of (kept.last i) (is i)
       (steps-same step stretch (view here) way kept.begins kept.boot i)
-      ((ap (λ (rule : Option Rule). refusal_or rule None) kept.refused ∙ refused-told way) i))
+      ((ap (λ (rule : Option Rule). refusal_or rule None) kept.refused ∙ told-refused way) i))
 
   -- where the processor sleeps up to the next boundary there is none
   pub asleep-none : (at : ℕ) → at < from → from ≤ most_steps → Sleeps run at → IsSilent run at
       → hits stops.watches (behind view (suc at)) ≡ [] → plain_at at ≡ false
       → cause_back at ≡ None
   asleep-none at before within sleeps silent met plain =
-      let here : sight_at run at ≡ view at = sym (view-at run at (omega (arith, before, within))) in
-      let next : sight_at run (suc at) ≡ view (suc at) =
-      sym (view-at run (suc at) (omega (arith, before, within))) in
-      let settled : (view at).boundary ≡ true =
-      subst (λ (one : Sight). one.boundary ≡ true) here sleeps.from in
+      let here = view-at run at (omega (arith, before, within)) in
+      let settled : (view at).boundary ≡ true = rw here sleeps.from in
       let ends : (view (suc at)).boundary ≡ true =
-      subst (λ (one : Sight). one.boundary ≡ true) next sleeps.to in
-      let idle : (view at).next.kind ≡ Idle =
-      subst (λ (one : Sight). one.next.kind ≡ Idle) here sleeps.idle in
-      let unrefused : (view at).next.refused ≡ None =
-      subst (λ (one : Sight). one.next.refused ≡ None) here silent.unrefused in
+      rw (view-at run (suc at) (omega (arith, before, within))) sleeps.to in
+      let idle : (view at).next.kind ≡ Idle = rw here sleeps.idle in
+      let unrefused : (view at).next.refused ≡ None = rw here silent.unrefused in
       let alone : behind view (suc at) ≡ view at ∷ [] =
       ap (λ (sights : List Sight). sights ++ view at ∷ [])
       (cond-true (view at).boundary [] (behind view at) settled) in

@@ -5,7 +5,7 @@ use Rattle.std.proofs.lemmas.Bool.{cond-false, cond-true, le-ltb, lt-ltb}
 use Rattle.device_types.specs.{declared.{bus_record.BusRecord.BusRecord, rule.Rule.Rule}}
 use Rattle.device_core.specs.Silence.{last_rule}
 use Rattle.device_trace.specs.Trace.{last_record, trace}
-use Rattle.debug_session.specs.{Request.most_steps, Cause.refusal_or, Place.{Run, logs_at, no_step, play_to, sight_at, step_at, step_sight, view_of}, Sight.{Sight, StepSight}}
+use Rattle.debug_session.specs.{Request.most_steps, Cause.refusal_or, Place.{Run, logs_at, no_step, play_to, sight_at, step_at, step_sight, view_of}, Sight.StepSight}
 use Rattle.debug_session.proofs.Views.{view-at}
 use Rattle.debug_walk.proofs.Views.{some-same}
 use Rattle.device_debug.specs.Ahead.{last_boundary, place_past}
@@ -63,12 +63,7 @@ module _ (run : Run) (from : ℕ) where
       ⊎_elim
       (λ (none : suc before ≡ 0). absurd (omega (arith, none)))
       (λ (here : (sight_at run (suc before)).boundary ≡ true).
-      let there : (view_of run (suc before)).boundary ≡ true =
-      ap (λ (sight : Sight). sight.boundary) (view-at run (suc before) within) ∙ here in
-      cond-true (sight_at run (suc before)).boundary (place_past from (suc before)) None here
-      ∙ sym (cond-true (view_of run (suc before)).boundary (place_past from (suc before))
-      (if is_some (view_of run before).next.refused then None
-      else last_boundary (view_of run) from before) there))
+      rw (view-at run (suc before) within, here) refl)
       settled
 
   pub past-next : (before : ℕ) (last result : Option ℕ) → suc before ≤ most_steps

@@ -1,5 +1,5 @@
 -- What a look for an interrupt has found.
-use Rattle.std.proofs.Common.{◌≡◌, ◌+◌, ℕ, Bool, true, Option, subst, arith}
+use Rattle.std.proofs.Common.{◌≡◌, ◌+◌, ℕ, Bool, true, Option, arith}
 use Rattle.std.specs.Prelude.{option_map}
 use Rattle.debug_link.specs.Conversation.{HaveCome}
 use Rattle.debug_link.proofs.Interrupts.{both-came, fewer-came}
@@ -13,7 +13,7 @@ some-came count before after came = fewer-came 0 count before after (omega arith
 pub found-one : (found : Bool) (before after : Option ℕ) → found ≡ true
     → HaveCome (bit_of found) before after → HaveCome 1 before after
 found-one found before after is came =
-    subst (λ (one : Bool). HaveCome (bit_of one) before after) is came
+    rw is at came
 
 -- one look more
 pub looked-again : (found : Bool) (before between after : Option ℕ)

@@ -1,10 +1,10 @@
 -- What a debugger answers from another place, and behind lines that it told.
-use Rattle.std.proofs.Common.{◌≡◌, ◌≤◌, ◌-◌, ◌∙◌, ℕ, List, [], Option, Some, Result, Ok, Err, IsErr, refl, ap, sym, subst}
+use Rattle.std.proofs.Common.{◌≡◌, ◌≤◌, ◌-◌, ◌∙◌, ℕ, List, [], Option, Some, Result, Ok, Err, IsErr, refl, ap, sym, subst, arith}
 use Rattle.std.specs.Prelude.{codes}
 use Rattle.hmac_core.specs.Hash.{Hash}
 use Rattle.outside_edge.specs.declared.sink.Sink as sink
 use Rattle.debug_link.specs.{Console.console, Conversation.{HaveCome, count_of}, Writing.{Answers, PacketSink, PutsPackets}, declared.{answer_fault.AnswerFault.AnswerFault, connection.Connection.Connection}}
-use Rattle.debug_session.specs.{Request.most_steps, declared.{command.{Going.Going, Way.{Way, TheVariants.{Ahead, Back}}}, request.Request.{Request, TheVariants.Until}, stop.Stop.Stop}, Cause.{Step, cause}, Going.{Standing, first_stop, interrupted, last_stop, step_of, where_to}, Monitor.request_text, Place.{Run, sight_at, view_of}, Session.{Session, after_request, lines_to, answer_to_request, says, stands_at}, Sight.Sight, StopReply.stop_reply, Stops.Stops}
+use Rattle.debug_session.specs.{Request.most_steps, declared.{command.{Going.Going, Way.{Way, TheVariants.{Ahead, Back}}}, request.Request.{Request, TheVariants.Until}, stop.Stop.Stop}, Cause.{Step, cause}, Going.{Standing, first_stop, interrupted, last_stop, step_of, where_to}, Monitor.request_text, Place.{Run, sight_at, view_of}, Session.{Session, after_request, lines_to, answer_to_request, says, stands_at}, StopReply.stop_reply, Stops.Stops}
 use Rattle.debug_session.proofs.Views.{view-at}
 use Rattle.debug_walk.specs.{Copies.TrackStandsFor, PlayedRun.played_run, Walk.{OfWalk, Walks, place_of}, declared.{track.Track.Track, walk.Walk.Walk}}
 use Rattle.device_debug.specs.{Ahead.seek_ahead, Back.seek_back, Going.{GoesOn, HasArrived, StandsAt}, Session.{DebuggerStandsFor, Gives, MayGive, run_at, view_in}, declared.debugger.Debugger.Debugger}
@@ -30,11 +30,7 @@ module _ {D W : Type 0} (hash : Hash D) (w : sink.Ghosts W) where
       (record debugger { halted = Some halted; stop = stop }) (stands_at session now []) result
   stood old new debugger halted stop now session body result is arrived track stops gives =
       let there : Session = record session { place = now.place; stop = now.stop } in
-      let same : body ≡ stop_reply now.stop = is ∙ ap stop_reply arrived.stop_is in
-      subst
-      (λ (one : List ℕ). Answers (DebuggerStandsFor hash) w old new
-      (record debugger { halted = Some halted; stop = stop }) (says there one) result) same
-      (gives.answers there (record {
+      rw (is ∙ ap stop_reply arrived.stop_is) at (gives.answers there (record {
         halted = halted;
         halted_is = refl;
         stands = arrived.stands;
@@ -73,9 +69,6 @@ module _ {D W : Type 0} (hash : Hash D) (w : sink.Ghosts W) where
       abbrev run : Run
       run = run_at hash debugger
 
-      mid-run : run_at hash mid ≡ run
-      mid-run = ap (played_run hash) same_run
-
       stands-there : (old new : PacketSink W) (end : Walk D) (stop : Stop)
           (result : Result Connection AnswerFault) (session : Session) (now : Standing)
           → DebuggerStandsFor hash debugger session
@@ -83,10 +76,9 @@ module _ {D W : Type 0} (hash : Hash D) (w : sink.Ghosts W) where
           → HasArrived hash run now end stop
           → Answers (DebuggerStandsFor hash) w old new after (stands_at session now []) result
       stands-there old new end stop result session now here there arrived =
-          there now session
-          (subst (λ (one : Run). HasArrived hash one now end stop) (sym mid-run) arrived)
-          (subst (λ (one : Run). TrackStandsFor hash mid.track one) (sym mid-run)
-          (stays session here))
+          let same : run ≡ run_at hash mid = ap (played_run hash) (sym same_run) in
+          there now session (subst (λ (one : Run). HasArrived hash one now end stop) same arrived)
+          (subst (TrackStandsFor hash mid.track) same (stays session here))
           (same_stops ∙ here.stops)
 
       -- it went on
@@ -108,15 +100,9 @@ module _ {D W : Type 0} (hash : Hash D) (w : sink.Ghosts W) where
                 let now : Standing = to way.0 debugger.stops session.place in (
                   way.0,
                   way.1,
-                  subst
-                      (λ (stops : Stops). Answers (DebuggerStandsFor hash) w old new after
-                      (stands_at session (to way.0 stops session.place)
-                      (lines_to (view_of run) Ahead session.place (to way.0 stops session.place)))
-                      result)
-                      here.stops
-                      (answered-behind (DebuggerStandsFor hash) w old between new after
-                      (stands_at session now []) (lines_to (view_of run) Ahead session.place now)
-                      result way.2.put
+                  rw here.stops at (answered-behind (DebuggerStandsFor hash) w old between new
+                      after (stands_at session now [])
+                      (lines_to (view_of run) Ahead session.place now) result way.2.put
                       (stands-there between new end stop result session now here there
                       way.2.arrived)),
                 );
@@ -139,11 +125,7 @@ module _ {D W : Type 0} (hash : Hash D) (w : sink.Ghosts W) where
                 let way = goes session here in (
                   way.0,
                   way.1,
-                  subst
-                      (λ (stops : Stops). Answers (DebuggerStandsFor hash) w old new after
-                      (stands_at session (to way.0 stops session.place) []) result)
-                      here.stops
-                      (stands-there old new end stop result session
+                  rw here.stops at (stands-there old new end stop result session
                       (to way.0 debugger.stops session.place) here there way.2),
                 );
             same_run = after_run ∙ same_run;
@@ -171,14 +153,7 @@ module _ {D W : Type 0} (hash : Hash D) (w : sink.Ghosts W) where
             let now : Standing = to way.0 debugger.stops session.place in (
               way.0,
               way.1,
-              subst
-                  (λ (stops : Stops). Answers (DebuggerStandsFor hash) w old new after
-                  (stands_at session (to way.0 stops session.place)
-                  (lines_to (view_in hash debugger) Ahead session.place
-                  (to way.0 stops session.place)))
-                  result)
-                  here.stops
-                  (failed-before (DebuggerStandsFor hash) w old new after
+              rw here.stops at (failed-before (DebuggerStandsFor hash) w old new after
                   (stands_at session now [])
                   (lines_to (view_in hash debugger) Ahead session.place now) result failed
                   way.2.prefix),
@@ -201,17 +176,12 @@ module _ {D W : Type 0} (hash : Hash D) (w : sink.Ghosts W) where
       here = halted-here hash debugger session halted is stands
 
       track-here : TrackStandsFor hash track here-run
-      track-here = subst (λ (one : Track D). TrackStandsFor hash one here-run) (sym track_is)
-          stands.track
+      track-here = rw track_is stands.track
 
       same-step : step ≡ step_of going (view_of here-run session.place).level
       same-step =
-          step_is
-          ∙ ap (step_of going)
-          (level_is here-run here.walks
-          ∙ ap (λ (at : ℕ). (sight_at here-run at).level) here.place_is
-          ∙ ap (λ (sight : Sight). sight.level)
-          (sym (view-at here-run session.place here.within)))
+          rw (view-at here-run session.place here.within, ← here.place_is)
+          (step_is ∙ ap (step_of going) (level_is here-run here.walks))
 
       pub stays-as : (new : Track D)
           → ((run : Run) → TrackStandsFor hash track run → Walks hash run halted
@@ -237,22 +207,7 @@ module _ {D W : Type 0} (hash : Hash D) (w : sink.Ghosts W) where
           → (interrupt : Option ℕ) × HaveCome (count_of interrupt) left left_new
           × GoesOn hash w old new here-run session.place (ends-at Ahead interrupt) result
       goes-as left left_new old new result goes =
-          subst
-          (λ (one : Option Step). (interrupt : Option ℕ)
-          × HaveCome (count_of interrupt) left left_new
-          × GoesOn hash w old new here-run session.place
-          (interrupted (view_of here-run) session.place interrupt
-          (first_stop (cause (view_of here-run) debugger.stops (seek_ahead one)) session.place
-          (most_steps - session.place))) result)
-          same-step
-          (subst
-          (λ (one : Stops). (interrupt : Option ℕ)
-          × HaveCome (count_of interrupt) left left_new
-          × GoesOn hash w old new here-run session.place
-          (interrupted (view_of here-run) session.place interrupt
-          (first_stop (cause (view_of here-run) one (seek_ahead step)) session.place
-          (most_steps - session.place))) result)
-          stops_is (goes here-run session.place track-here here))
+          rw (stops_is, same-step) at (goes here-run session.place track-here here)
 
       pub goes-back-as : (left left_new : Option ℕ) (end : Walk D) (stop : Stop)
           → ((run : Run) (from : ℕ) → TrackStandsFor hash track run
@@ -264,22 +219,7 @@ module _ {D W : Type 0} (hash : Hash D) (w : sink.Ghosts W) where
           → (interrupt : Option ℕ) × HaveCome (count_of interrupt) left left_new
           × HasArrived hash here-run (ends-at Back interrupt) end stop
       goes-back-as left left_new end stop goes =
-          subst
-          (λ (one : Option Step). (interrupt : Option ℕ)
-          × HaveCome (count_of interrupt) left left_new
-          × HasArrived hash here-run
-          (interrupted (view_of here-run) session.place interrupt
-          (last_stop (cause (view_of here-run) debugger.stops (seek_back one session.place))
-          session.place)) end stop)
-          same-step
-          (subst
-          (λ (one : Stops). (interrupt : Option ℕ)
-          × HaveCome (count_of interrupt) left left_new
-          × HasArrived hash here-run
-          (interrupted (view_of here-run) session.place interrupt
-          (last_stop (cause (view_of here-run) one (seek_back step session.place)) session.place))
-          end stop)
-          stops_is (goes here-run session.place track-here here))
+          rw (stops_is, same-step) at (goes here-run session.place track-here here)
 
   -- it told what a user asked for, after the request was kept
   abbrev pub TellsRequest : {V : Type 0} → PacketSink W → PacketSink W → Debugger D → Walk D
@@ -309,15 +249,8 @@ module _ {D W : Type 0} (hash : Hash D) (w : sink.Ghosts W) where
       let here : StandsAt hash (run_at hash kept) there.place halted =
       halted-here hash kept there halted is stands in
       let same : place_of halted ≡ session.place = here.place_is ∙ place-kept session request in
-      subst
-      (λ (run : Run). PutsPackets w old new
-      (console (request_text (view_of run) session.place request)) result)
-      (ap (played_run hash) run_is)
-      (subst
-      (λ (place : ℕ). PutsPackets w old new
-      (console (request_text (view_in hash kept) place request)) result) same
-      (tells (run_at hash kept) stands.track here.walks
-      (subst (λ (place : ℕ). place ≤ most_steps) (sym here.place_is) here.within)))
+      rw (run_is, same) at (tells (run_at hash kept) stands.track here.walks
+      (omega (arith, here.place_is, here.within)))
 
   pub told-request : {V : Type 0} (old mid new : PacketSink W) (debugger kept : Debugger D)
       (halted : Walk D) (request : Request) (value : V) (result : Result Connection AnswerFault)

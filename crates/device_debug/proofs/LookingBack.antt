@@ -1,11 +1,11 @@
 -- A walk that looks back at a piece of the way, from boundary to boundary.
 use Rattle.std.proofs.Common.{◌≡◌, ◌≤◌, ◌<◌, ◌+◌, ◌-◌, ◌∙◌, ◌⊎◌, inl, inr, ⊎_elim, ℕ, zero, suc, Bool, true, false, Option, None, length, refl, ap, sym, subst, arith}
-use Rattle.std.specs.Prelude.{◌&&◌, IfSome, nat_lt, if◌then◌else◌}
+use Rattle.std.specs.Prelude.{IfSome, nat_lt, if◌then◌else◌}
 use Rattle.std.specs.Option.{option_or}
-use Rattle.std.proofs.lemmas.Bool.{cases_Bool, cases_lt, cond-false, cond-true, ltb-false, ltb-true}
+use Rattle.std.proofs.lemmas.Bool.{cases_Bool, cases_lt, ltb-false, ltb-true}
 use Rattle.hmac_core.specs.Hash.{Hash}
 use Rattle.part_definitions.specs.CpuRegister.{pc_of}
-use Rattle.debug_session.specs.{Request.most_steps, Stops.Stops, declared.stop.Stop.Stop, Cause.{Step, behind, is_plain}, Place.{Run, sight_at, view_of}, Sight.Sight}
+use Rattle.debug_session.specs.{Request.most_steps, Stops.Stops, declared.stop.Stop.Stop, Cause.{Step, behind, is_plain}, Place.{Run, sight_at, view_of}}
 use Rattle.debug_session.proofs.Views.{view-at}
 use Rattle.debug_walk.specs.{Copies.{IsBefore, IsBegun}, Passing.{ArePassed, AreSilent, Sleeps}, Walk.{IsStretch, Walks, place_of}, declared.walk.Walk.Walk}
 use Rattle.device_debug.specs.{Back.{IsLastBehind, stop_with_place}, Seek.cause_before}
@@ -58,15 +58,9 @@ module _ {D : Type 0} (hash : Hash D) (run : Run) (stops : Stops) (step : Option
             within = early;
             from_begin = omega (arith, same);
             settled = λ past. absurd (omega (arith, past, same));
-            pc_is = λ less. pc_is
-                ∙ ap (λ (at : ℕ). pc_of (sight_at run at).registers) (sym place_is)
-                ∙ ap (λ (one : Sight). pc_of one.registers) (view-here place early);
+            pc_is = λ less. rw (← view-here place early, place_is) pc_is;
             broken_is = λ past. absurd (omega (arith, past, same));
-            fresh = λ less. subst
-                (λ (at : ℕ). ((sight_at run at).boundary ≡ true)
-                ⊎ IsStretch stops.watches run at walk.stretch)
-                (sym place_is)
-                (⊎_elim
+            fresh = λ less. rw place_is (⊎_elim
                 (λ (here : (sight_at run (place_of walk)).boundary ≡ true). inl here)
                 (λ kept. inr (kept stops.watches)) begun.fresh);
             covers = covers-on cause_at begin begin place None (omega (arith, same))
@@ -135,13 +129,12 @@ module _ {D : Type 0} (hash : Hash D) (run : Run) (stops : Stops) (step : Option
 
           pc-there : pc ≡ pc_of (view_of run there).registers
           pc-there =
-              looks.pc_is (omega (arith, bounds))
-              ∙ ap (λ (sight : Sight). pc_of sight.registers)
-              (sym (view-here place (omega (arith, bounds))))
-              ∙ ap pc_of
-              (sym (same-registers (there - place) there (omega (arith, bounds)) (omega arith)))
-              ∙ ap (λ (sight : Sight). pc_of sight.registers)
-              (view-here there (omega (arith, bounds)))
+              rw (
+                ← view-here there (omega (arith, bounds)),
+                same-registers (there - place) there (omega (arith, bounds)) (omega arith),
+                view-here place (omega (arith, bounds)),
+              )
+              (looks.pc_is (omega (arith, bounds)))
 
           -- the boundaries that it slept over are not broken
           unbroken : place < there → broken ≡ false
@@ -156,10 +149,8 @@ module _ {D : Type 0} (hash : Hash D) (run : Run) (stops : Stops) (step : Option
               (λ (less : place < there).
               let before : ℕ = there - 1 in
               let next_is : suc before ≡ there = omega (arith, less) in
-              subst (λ (sight : Sight). sight.boundary ≡ true)
-              (view-here there (omega (arith, bounds)))
-              (subst (λ (at : ℕ). (sight_at run at).boundary ≡ true) next_is
-              (slept before (omega (arith, less)) (omega (arith, less))).to))
+              rw (next_is, view-here there (omega (arith, bounds)))
+              at (slept before (omega (arith, less)) (omega (arith, less))).to)
               (λ (over : there ≤ place).
               let same : place ≡ there = omega (arith, over, bounds) in
               subst (λ (at : ℕ). (view_of run at).boundary ≡ true) same
@@ -173,12 +164,8 @@ module _ {D : Type 0} (hash : Hash D) (run : Run) (stops : Stops) (step : Option
               → plain_at run stops step from at ≡ false
           plain-past at past before here =
               plain-none (view_of run at).boundary (plain_at run stops step from at)
-              (subst
-              (λ (sight : Sight). (sight.boundary
-              && is_plain stops sight (at - length (behind (view_of run) at)) at) ≡ false)
-              (view-here at (omega (arith, before, bounds)))
-              (passed at (omega (arith, past, looks.place_is))
-              (omega (arith, before, bounds))).plain)
+              (rw (← view-here at (omega (arith, before, bounds)))
+              (passed at (omega (arith, past, looks.place_is)) (omega (arith, before, bounds))).plain)
               here
 
           plain-here : place < there → begin < place → plain_at run stops step from place ≡ false
@@ -200,8 +187,7 @@ module _ {D : Type 0} (hash : Hash D) (run : Run) (stops : Stops) (step : Option
           none-slept at past over before =
               let sleeps = slept at over before in
               let settled : (view_of run at).boundary ≡ true =
-              subst (λ (sight : Sight). sight.boundary ≡ true)
-              (view-here at (omega (arith, before, bounds))) sleeps.from in
+              rw (view-here at (omega (arith, before, bounds))) at sleeps.from in
               asleep-none run stops step from at (omega (arith, before, bounds)) within sleeps
               (silent at (omega (arith, over, looks.place_is)) before)
               (passed (suc at) (omega (arith, over, looks.place_is)) (omega (arith, before))).met
@@ -209,21 +195,18 @@ module _ {D : Type 0} (hash : Hash D) (run : Run) (stops : Stops) (step : Option
               (λ (less : place < at). plain-past at less (omega (arith, before)) settled)
               (λ (not_less : at ≤ place).
               let same : place ≡ at = omega (arith, not_less, over) in
-              subst (λ (other : ℕ). plain_at run stops step from other ≡ false) same
-              (plain-here (omega (arith, same, before)) (omega (arith, same, past))))
+              rw same at (plain-here (omega (arith, same, before)) (omega (arith, same, past))))
               (cases_lt place at))
 
           none-on : (at : ℕ) → there < at → at < until → (view_of run at).boundary ≡ false
           none-on at past less =
-              subst (λ (one : Sight). one.boundary ≡ false)
-              (view-here at (omega (arith, less, on)))
-              (none at (omega (arith, past)) less)
+              rw (view-here at (omega (arith, less, on))) at (none at (omega (arith, past)) less)
 
           ends-there : (until ≡ from) ⊎ ((view_of run until).boundary ≡ true)
           ends-there =
               ⊎_elim (λ (all : until ≡ from). inl all)
               (λ (here : (sight_at run until).boundary ≡ true).
-              inr (subst (λ (one : Sight). one.boundary ≡ true) (view-here until on.1) here))
+              inr (rw (view-here until on.1) at here))
               ends
 
           abbrev stop_there : Option Stop
@@ -250,24 +233,18 @@ module _ {D : Type 0} (hash : Hash D) (run : Run) (stops : Stops) (step : Option
               (λ (past : nat_lt begin there ≡ true).
               let later : begin < there = ltb-true begin there past in
               covers-on cause_at begin (suc there) until found' (omega (arith, bounds)) between
-              (subst (Covers cause_at begin (suc there))
-              (sym (found_is ∙ cond-true (nat_lt begin there)
-              (option_or (stop_with_place there stop_there) found) found past))
-              (covers-here cause_at begin there stop_there found later (cause-there later)
-              covers-last)))
+              (rw (found_is, past) (covers-here cause_at begin there stop_there found later
+              (cause-there later) covers-last)))
               (λ (none_past : nat_lt begin there ≡ false).
               let same : there ≤ begin = ltb-false begin there none_past in
               covers-on cause_at begin there until found' (omega (arith, bounds))
               (λ at past over below. between at past (omega (arith, past, same)) below)
-              (subst (Covers cause_at begin there)
-              (sym (found_is ∙ cond-false (nat_lt begin there)
-              (option_or (stop_with_place there stop_there) found) found none_past))
-              covers-last))
+              (rw (found_is, none_past) covers-last))
               (cases_Bool (nat_lt begin there))
 
           early-there : IfSome found' (λ one. one.0 ≤ last)
           early-there =
-              subst (λ (one : Option (ℕ × Stop)). IfSome one (λ is. is.0 ≤ last)) (sym found_is)
+              rw found_is
               (either-early last (nat_lt begin there)
               (option_or (stop_with_place there stop_there) found) found
               (early-or last there stop_there found (omega (arith, gone)) looks.early)
@@ -285,24 +262,14 @@ module _ {D : Type 0} (hash : Hash D) (run : Run) (stops : Stops) (step : Option
                 place_is = place_is;
                 within = omega (arith, place_is, on);
                 from_begin = omega (arith, place_is, bounds, looks.from_begin);
-                settled = λ past. subst
-                    (λ (at : ℕ). ((view_of run at).boundary ≡ true) ⊎ (at ≡ from))
-                    (sym place_is)
-                    (⊎_elim (λ (all : until ≡ from). inr all)
+                settled = λ past. rw place_is (⊎_elim (λ (all : until ≡ from). inr all)
                     (λ (is : (view_of run until).boundary ≡ true). inl is) ends-there);
-                pc_is = λ some. pc_is ∙ ap (λ (sight : Sight). pc_of sight.registers) here
-                    ∙ ap (λ (at : ℕ). pc_of (view_of run at).registers) (sym place_is);
-                broken_is = λ past some. broken_is
-                    ∙ ap (λ (sight : Sight). is_plain stops sight
-                    (until - length (behind (view_of run) until)) until) here
-                    ∙ ap (plain_at run stops step from) (sym place_is);
+                pc_is = λ some. rw (place_is, ← here) pc_is;
+                broken_is = λ past some. rw (place_is, ← here) broken_is;
                 fresh = λ some. inl (⊎_elim
                     (λ (all : until ≡ from). absurd (omega (arith, all, some, place_is)))
-                    (λ (is : (sight_at run until).boundary ≡ true).
-                    subst (λ (at : ℕ). (sight_at run at).boundary ≡ true) (sym place_is) is)
-                    ends);
-                covers = subst (λ (at : ℕ). Covers cause_at begin at found') (sym place_is)
-                    covers-there;
+                    (λ (is : (sight_at run until).boundary ≡ true). rw place_is is) ends);
+                covers = rw place_is covers-there;
                 early = early-there;
               }
 

@@ -1,5 +1,5 @@
 -- What is told where the last step was refused.
-use Rattle.std.proofs.Common.{◌≡◌, ◌≤◌, ◌<◌, ◌∙◌, ◌++◌, ℕ, List, [], Option, Some, None, Result, Ok, Err, IsErr, refl, ap, sym, subst, arith}
+use Rattle.std.proofs.Common.{◌≡◌, ◌≤◌, ◌<◌, ◌∙◌, ◌++◌, ℕ, List, [], Option, Some, None, Result, Ok, Err, IsErr, refl, ap, sym, arith}
 use Rattle.std.specs.Prelude.{codes}
 use Rattle.std.proofs.lemmas.Bool.{false≢true}
 use Rattle.std.proofs.lemmas.List.{append-nil}
@@ -38,17 +38,12 @@ module _ {D W : Type 0} (hash : Hash D) (w : sink.Ghosts W) (run : Run) (from st
 
     pub stops-unrefused : (now : PacketSink W) → None ≡ told → StopsSo now now (Ok None)
     stops-unrefused now none =
-        subst (λ (found : Option (ℕ × Rule)). StopsBefore hash w now now run step found (Ok None))
-        (sym (found-is ∙ ap (both_of (last_boundary (view_of run) from step)) (sym none)
-        ∙ none-told (last_boundary (view_of run) from step)))
-        (refl, refl)
+        rw (found-is, ← none, none-told (last_boundary (view_of run) from step)) (refl, refl)
 
     pub stops-nowhere : (now : PacketSink W) → None ≡ last_boundary (view_of run) from step
         → StopsSo now now (Ok None)
     stops-nowhere now none =
-        subst (λ (found : Option (ℕ × Rule)). StopsBefore hash w now now run step found (Ok None))
-        (sym (found-is ∙ ap (λ (last : Option ℕ). both_of last told) (sym none)))
-        (refl, refl)
+        rw (found-is, ← none) (refl, refl)
 
     nothing-put : (now : PacketSink W) (found : Option (ℕ × Rule))
         (result : Result (Option (Walk D × Stop)) AnswerFault) → IsErr result
@@ -86,8 +81,7 @@ module _ {D W : Type 0} (hash : Hash D) (w : sink.Ghosts W) (run : Run) (from st
             → StopsBefore hash w old new run step (Some (at, rule)) result
             → StopsSo old new result
         stops-as old new result stops =
-            subst (λ (found : Option (ℕ × Rule)). StopsBefore hash w old new run step found result)
-            (sym found-so) stops
+            rw found-so stops
 
         fails-by : (old new : PacketSink W) (result : Result (Option (Walk D × Stop)) AnswerFault)
             → IsErr result → PutsPackets w old new text result → StopsSo old new result
@@ -105,9 +99,8 @@ module _ {D W : Type 0} (hash : Hash D) (w : sink.Ghosts W) (run : Run) (from st
             → PutsPackets {E = AnswerFault} w old new text (Ok value) → StopsSo old new result
         going-back-fails old new value result failed puts =
             fails-by old new result failed
-            (subst (λ (bodies : List (List ℕ)). PutsPackets w old new bodies result)
-            (append-nil text)
-            (puts_behind w old new new text [] result puts.all (puts-none w new [] result failed)))
+            (rw (append-nil text) at (puts_behind w old new new text [] result puts.all
+            (puts-none w new [] result failed)))
 
         pub stops-at : {V : Type 0} (old new : PacketSink W) (value : V) (walk : Walk D)
             → IsAt hash run at walk → PutsPackets {E = AnswerFault} w old new text (Ok value)

@@ -5,7 +5,6 @@ use Rattle.std.proofs.lemmas.Bool.{cases_Bool, false≢true}
 use Rattle.std.proofs.lemmas.List.{take_more, take-append-drop}
 use Rattle.std.proofs.lemmas.Result.{on_ok_weaker}
 use Rattle.hmac_core.specs.Hash.{Hash}
-use Rattle.outside_edge.specs.Sink.{TakesPrefix}
 use Rattle.outside_edge.specs.declared.sink.Sink as sink
 use Rattle.device_core.specs.{Device.LiveStandsFor, declared.live.Live.Live}
 use Rattle.device_trace.specs.Trace.{play_of}
@@ -74,9 +73,7 @@ module _ {W : Type 0} (w : sink.Ghosts W) where
       (bodies_of (drop (n + 1) texts)) error
       (puts_behind w {V = U} old mid new (bodies_of (take n texts)) (console text.bytes)
       (Err error) put puts) in
-      puts_failed w old new (bodies_of texts) result failed
-      (subst (λ (bodies : List (List ℕ)). TakesPrefix w.stands old.sink new.sink
-      (packets_of bodies)) (sym whole) less.prefix)
+      puts_failed w old new (bodies_of texts) result failed (rw (← whole) at less.prefix)
 
   -- one text more was put
   pub texts-next : (old mid new : PacketSink W) (texts : List GrownText) (n : ℕ)
@@ -86,7 +83,7 @@ module _ {W : Type 0} (w : sink.Ghosts W) where
       → HasPut w mid new (console text.bytes)
       → HasPut w old new (bodies_of (take (n + 1) texts))
   texts-next old mid new texts n text within is put more =
-      subst (HasPut w old new) (sym (bodies-next texts n text within is))
+      rw (bodies-next texts n text within is)
       (put_both w old mid new (bodies_of (take n texts)) (console text.bytes) put more)
 
   -- behind a step nothing was put, since there was no memory for its lines
