@@ -201,55 +201,53 @@ module _ {D W : Type 0} (hash : Hash D) (w : sink.Ghosts W) (run : Run) (stops :
         abbrev told_put : List (List ℕ)
         told_put = going.way.put
 
-        here : most_steps ≤ place_of walk → place_of walk ≡ most_steps
-        here last = omega (arith, last, going.way.within)
-
-        is-end : most_steps ≤ place_of walk → aim ≡ record { place = most_steps; stop = End }
-        is-end last =
-            stops-nowhere view stops step from (omega (arith, going.way.since, here last))
-            (rw (here last) at going.way.clear)
-
         -- at the last place all lines are those that were put and those that wait
-        lines-end : most_steps ≤ place_of walk → lines aim ≡ told_put ++ bodies_of waiting
-        lines-end last =
-            let so = going.way.told.so_far in
-            ap lines (is-end last)
-            ∙ append-nil (told_lines view from (most_steps - from))
-            ∙ told-both view from (so.at - from) (most_steps - so.at) (most_steps - from) so.at
-            (omega (arith, so.from_at, so.at_place, here last)) (omega (arith, so.from_at))
-            ∙ rw (so.is, going.way.told.waits, here last) refl
+        module _ (last : most_steps ≤ place_of walk) where
+          here : place_of walk ≡ most_steps
+          here = omega (arith, last, going.way.within)
 
-        -- it stopped here
-        pub going-ends : {V E : Type 0} (new : PacketSink W) (value : V)
-            → most_steps ≤ place_of walk
-            → PutsPackets {E = E} w mid new (bodies_of waiting) (Ok value)
-            → GoesOn hash w old new run from aim (Ok (walk, End))
-        going-ends new value last puts =
-            record {
-              arrived = rw (is-end last) (record {
-                stands = record {
-                  walks = going.walks;
-                  place_is = here last;
-                  within = omega arith;
-                  settled = inr refl;
-                };
-                stop_is = refl;
-              });
-              put = subst (HasPut w old new) (sym (lines-end last))
-                  (put_both w old mid new told_put (bodies_of waiting) going.way.has_put puts.all);
-              prefix = tt;
-            }
+          is-end : aim ≡ record { place = most_steps; stop = End }
+          is-end =
+              stops-nowhere view stops step from (omega (arith, going.way.since, here))
+              (rw here at going.way.clear)
 
-        pub end-fails : {V E : Type 0} (new : PacketSink W) (error : E)
-            (result : Result (Walk D × Stop) AnswerFault)
-            → IsErr result → most_steps ≤ place_of walk
-            → PutsPackets {V = V} w mid new (bodies_of waiting) (Err error)
-            → GoesOn hash w old new run from aim result
-        end-fails {V} new error result failed last puts =
-            fails {V = V} old new error (told_put ++ bodies_of waiting) result failed
-            (lines-end last)
-            (puts_behind w old mid new told_put (bodies_of waiting) (Err error)
-            going.way.has_put puts)
+          lines-end : lines aim ≡ told_put ++ bodies_of waiting
+          lines-end =
+              let so = going.way.told.so_far in
+              ap lines is-end
+              ∙ append-nil (told_lines view from (most_steps - from))
+              ∙ told-both view from (so.at - from) (most_steps - so.at) (most_steps - from) so.at
+              (omega (arith, so.from_at, so.at_place, here)) (omega (arith, so.from_at))
+              ∙ rw (so.is, going.way.told.waits, here) refl
+
+          -- it stopped here
+          pub going-ends : {V E : Type 0} (new : PacketSink W) (value : V)
+              → PutsPackets {E = E} w mid new (bodies_of waiting) (Ok value)
+              → GoesOn hash w old new run from aim (Ok (walk, End))
+          going-ends new value puts =
+              record {
+                arrived = rw is-end (record {
+                  stands = record {
+                    walks = going.walks;
+                    place_is = here;
+                    within = omega arith;
+                    settled = inr refl;
+                  };
+                  stop_is = refl;
+                });
+                put = subst (HasPut w old new) (sym lines-end)
+                    (put_both w old mid new told_put (bodies_of waiting) going.way.has_put puts.all);
+                prefix = tt;
+              }
+
+          pub end-fails : {V E : Type 0} (new : PacketSink W) (error : E)
+              (result : Result (Walk D × Stop) AnswerFault) → IsErr result
+              → PutsPackets {V = V} w mid new (bodies_of waiting) (Err error)
+              → GoesOn hash w old new run from aim result
+          end-fails {V} new error result failed puts =
+              fails {V = V} old new error (told_put ++ bodies_of waiting) result failed lines-end
+              (puts_behind w old mid new told_put (bodies_of waiting) (Err error)
+              going.way.has_put puts)
 
         -- an interrupt ended its way here
         pub going-interrupted : (sight_at run (place_of walk)).boundary ≡ true
@@ -359,15 +357,6 @@ module _ {D W : Type 0} (hash : Hash D) (w : sink.Ghosts W) (run : Run) (stops :
           };
         }
 
-    -- what a walk finds is what there is at its place
-    pub cause-is : (at : ℕ) (found : Option Stop) → at ≤ most_steps
-        → found ≡ cause_here stops (seek_ahead step) at (sight_at run at) (behind view at) []
-        → cause_by view stops step from at ≡ found
-    cause-is at found within is =
-        ap (λ (sight : Sight). cause_here stops (seek_ahead step) at sight (behind view at) [])
-        (view-at run at within)
-        ∙ sym is
-
     module _ (old mid : PacketSink W) (walk : Walk D) (waiting : List GrownText)
         (passed : HasPassed old mid walk waiting)
       where
@@ -376,6 +365,18 @@ module _ {D W : Type 0} (hash : Hash D) (w : sink.Ghosts W) (run : Run) (stops :
 
         abbrev so_put : List (List ℕ)
         so_put = passed.way.put
+
+        -- what a walk finds is what there is at its place
+        pub cause-is : (found : Option Stop)
+            → found ≡ cause_here stops (seek_ahead step) (place_of walk)
+            (sight_at run (place_of walk)) (behind view (place_of walk)) []
+            → cause_by view stops step from (suc last_step) ≡ found
+        cause-is found is =
+            let at : ℕ = place_of walk in
+            subst (λ (one : ℕ). cause_by view stops step from one ≡ found) passed.place_is
+            (ap (λ (sight : Sight). cause_here stops (seek_ahead step) at sight (behind view at) [])
+            (view-at run at (omega (arith, passed.place_is, passed.before)))
+            ∙ sym is)
 
         -- it failed to look for a boundary before
         look-failed : (result : Result (Walk D × Stop) AnswerFault) → IsErr result
