@@ -6,4 +6,3 @@ pub mod Token
 pub mod Operand
 pub mod Statement
 pub mod Source
-pub mod IsSource

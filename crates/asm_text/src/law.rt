@@ -1,6 +1,6 @@
 ghost use Rattle.std.specs.Prelude.{◌≡◌, ℕ, List, Ok, Err};
 ghost use Rattle.text_scan.specs.declared.fault_at.FaultAt.{FaultAt};
-ghost use Rattle.asm_text.specs.{declared.statement.Statement.Statement, IsSource.{IsSource, IsFaultOf}, Source.source_of};
+ghost use Rattle.asm_text.specs.{declared.statement.Statement.Statement, Source.{IsSource, IsFaultOf, source_of}};
 
 /// A text that is read is UTF-8, and each of its lines, read alone, says its statement.
 pub fn statements_are_of_the_lines()

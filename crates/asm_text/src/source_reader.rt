@@ -1,5 +1,5 @@
 ghost use Rattle.std.specs.Prelude.{map};
-ghost use Rattle.text_scan.specs.{Line.text_lines, Reader.{Reads, ReadsWord}};
+ghost use Rattle.text_scan.specs.{LineFold.text_lines, Reader.{Reads, ReadsWord}};
 ghost use Rattle.asm_text.specs.{Operand.all_of, Source.{line_statement, statement_of, source_of}};
 
 use crate::source::Source;

@@ -13,9 +13,9 @@ use Rattle.source_server.proofs.ServedPieces.{none_served}
 use Rattle.debug_link.specs.{declared.talk_end.TalkEnd.TheVariants.Memory}
 use Rattle.debug_link.proofs.Interrupts.{may-come, none-came}
 use Rattle.debug_session.specs.Place.{Run}
-use Rattle.debug_walk.specs.{PlayedRun.played_run, Walk.second_flag, declared.run.Run.Run as GivenRun}
+use Rattle.debug_walk.specs.{Copies.played_run, Walk.second_flag, declared.run.Run.Run as GivenRun}
 use Rattle.device_debug.specs.{Session.StandsInRun, declared.run_debugger.RunDebugger.RunDebugger}
-use Rattle.debug_cli.specs.{Begun.first_of, Session.debug_promise}
+use Rattle.debug_cli.specs.Session.{first_of, debug_promise}
 
 -- the run of these files, by any digest
 abbrev pub files_run : {D : Type 0} → Hash D → List ℕ → Image → List TimedEvent → Run

@@ -1,10 +1,10 @@
 -- Where no part of the outside failed, no fault is answered.
 use Rattle.std.proofs.Common.{◌≡◌, ◌⊎◌, ℕ, Option, Some, None, refl, inl, inr, ⊎_elim}
-use Rattle.outside_edge.specs.Count.{Rose}
+use Rattle.outside_edge.specs.Calls.{Rose}
 use Rattle.outside_edge.specs.declared.shelf.Shelf as shelves
 use Rattle.outside_edge.specs.declared.sink.Sink as sink
 use Rattle.outside_edge.specs.declared.source.Source as source
-use Rattle.source_server.specs.Ports.{Ports}
+use Rattle.source_server.specs.Serving.{Ports}
 use Rattle.input_files.specs.{declared.status.Status.{Status, TheVariants.Words}, Reading.{Files, IsRefusal}, Row.RowOf}
 use Rattle.debug_cli.specs.Session.{IsSessionAnswer, Session}
 use Rattle.debug_cli.proofs.ServedSession.{IsFault, no-fault, served-fault}

@@ -1,15 +1,15 @@
 -- What is answered once a source was served.
 use Rattle.std.proofs.Common.{◌≡◌, ◌<◌, ◌⊎◌, ℕ, List, length, Option, Some, refl, inl, inr, arith}
-use Rattle.outside_edge.specs.Count.{Rose}
+use Rattle.outside_edge.specs.Calls.{Rose}
 use Rattle.outside_edge.specs.declared.sink.Sink as sink
 use Rattle.outside_edge.specs.declared.source.Source as source
-use Rattle.source_server.specs.{declared.{halt.Halt.Halt, served.Served.Served}, Ports.Ports, Responder.Promise, Serving.{Serves, served_of}, Taken.{KeepsLimit, most_input}}
+use Rattle.source_server.specs.{declared.{halt.Halt.Halt, served.Served.Served}, Serving.{Ports, Serves, served_of}, Responder.Promise, Taken.{KeepsLimit, most_input}}
 use Rattle.source_server.specs.declared.halt.Halt.TheVariants as halt
 use Rattle.source_server.specs.declared.served.Served.TheVariants as served
 use Rattle.source_server.proofs.ServedEnds.{keeps_limit, unwritten, whole_or_stopped}
 use Rattle.debug_link.specs.declared.talk_end.TalkEnd.{TalkEnd}
 use Rattle.debug_link.specs.declared.talk_end.TalkEnd.TheVariants as talk
-use Rattle.device_live.specs.Serving.{life_promise}
+use Rattle.device_live.specs.Conversation.{life_promise}
 use Rattle.input_files.specs.{declared.status.Status.{Status, TheVariants.{Done, Words, Memory, Spent, ReadFault, WriteFault}}}
 use Rattle.debug_cli.specs.{Session.{Debugs, EndsWith, HasServed, Lives, Session, debug_promise}, Status.{status_of, talk_status}}
 

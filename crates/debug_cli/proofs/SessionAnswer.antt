@@ -5,10 +5,10 @@ use Rattle.outside_edge.specs.declared.shelf.Shelf as shelves
 use Rattle.outside_edge.specs.declared.sink.Sink as sink
 use Rattle.outside_edge.specs.declared.source.Source as source
 use Rattle.play_script.specs.Script.{TimedEvent}
-use Rattle.source_server.specs.Ports.{Ports}
+use Rattle.source_server.specs.Serving.{Ports}
 use Rattle.input_files.specs.{declared.{refusal.Refusal.Refusal, status.Status.{Status, TheVariants.Words}}, Reading.{Reaches, Reads}, Row.{RowOf, Ends}, Status.status_of_refusal}
 use Rattle.input_files.proofs.{Complete.{refused-complete, told-complete}, Refused.{refused-spent, refused-words}}
-use Rattle.debug_cli.specs.{Begun.{run_with, start_with}, Session.{Debugs, HasServed, IsSessionAnswer, Lives, Session}}
+use Rattle.debug_cli.specs.Session.{run_with, start_with, Debugs, HasServed, IsSessionAnswer, Lives, Session}
 use Rattle.debug_cli.proofs.ServedSession.{served-limit, served-whole, served-words}
 
 -- the ends of the rows, once their files have values

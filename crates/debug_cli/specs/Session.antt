@@ -1,18 +1,38 @@
 -- The commands that serve a source: `debug`, whose packets drive a device through a run, and
 -- `live`, whose lines say what happens to a device.
 use Rattle.std.specs.Prelude.{◌≡◌, ◌<◌, ◌≤◌, ◌⊎◌, ◌↔◌, ℕ, List, [], ◌∷◌, bytes_eq, codes, length, Option, Some, None, IfSome, Ok, if◌then◌else◌}
-use Rattle.device_trace.specs.Start.{Start}
-use Rattle.outside_edge.specs.{Count.Rose, Shelf.KeepsFiles}
+use Rattle.device_trace.specs.Start.{Start, with_key}
+use Rattle.outside_edge.specs.{Calls.Rose, Shelf.KeepsFiles}
+use Rattle.source_server.specs.{declared.served.Served.Served, Serving.{Ports, Serves}, Responder.Promise, Taken.{KeepsLimit, most_input}}
+use Rattle.debug_link.specs.{Serving.talk_promise, declared.talk_end.TalkEnd.TalkEnd}
+use Rattle.debug_session.specs.{Place.Run, Session.first_session}
+use Rattle.device_debug.specs.Session.{run_reply, RunSession}
+use Rattle.device_live.specs.Conversation.{life_promise}
+use Rattle.input_files.specs.{declared.status.Status.{Status, TheVariants.{Done, Words, Memory, Spent}}, FileKind.{image_kind, key_kind, script_kind}, Reading.{IsUnread, Reaches, first_refusal}, Row.{RowOf, Ends, read_file}}
+use Rattle.debug_cli.specs.Status.{status_of_life, status_of_talk}
+use Rattle.device_types.specs.Address.{Bytes}
+use Rattle.part_definitions.specs.TrustedFlag.{aux}
+use Rattle.mem_map.specs.Image.{image_byte}
+use Rattle.play_script.specs.Script.{TimedEvent, events_of}
+use Rattle.sha2.specs.Sha256.{sha256}
 use Rattle.outside_edge.specs.declared.shelf.Shelf as shelves
 use Rattle.outside_edge.specs.declared.sink.Sink as sink
 use Rattle.outside_edge.specs.declared.source.Source as source
-use Rattle.source_server.specs.{declared.served.Served.Served, Ports.Ports, Responder.Promise, Serving.Serves, Taken.{KeepsLimit, most_input}}
-use Rattle.debug_link.specs.{Serving.talk_promise, declared.talk_end.TalkEnd.TalkEnd}
-use Rattle.debug_session.specs.Place.{Run}
-use Rattle.device_debug.specs.Session.{run_reply}
-use Rattle.device_live.specs.Serving.{life_promise}
-use Rattle.input_files.specs.{declared.status.Status.{Status, TheVariants.{Done, Words, Memory, Spent}}, FileKind.{image_kind, key_kind, script_kind}, Reading.{IsUnread, Reaches, first_refusal}, Row.{RowOf, Ends, read_file}}
-use Rattle.debug_cli.specs.{Begun.{first_of, run_with, start_with}, Status.{status_of_life, status_of_talk}}
+
+-- What the files of a command give: a device at power-on, or a run of it for a debugger.
+
+-- what `play` powers a device on with, of a key and an image
+abbrev pub start_with : Bytes → (ℕ → Option ℕ) → Start
+start_with key image = with_key aux sha256 key (image_byte image)
+
+-- the run of `play` with the same files
+abbrev pub run_with : Bytes → (ℕ → Option ℕ) → List TimedEvent → Run
+run_with key image script =
+    record { start = start_with key image; events_at = events_of script }
+
+-- before the first packet of a run
+abbrev pub first_of : Run → RunSession
+first_of run = record { run = run; session = first_session }
 
 -- what serves a source: a debugger of a run, or a device at power-on
 pub data Session : Type 0 where

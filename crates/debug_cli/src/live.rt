@@ -1,7 +1,7 @@
 ghost use Rattle.std.specs.Prelude.{◌≡◌, ◌≤◌, ℕ, None, Option, Some, option_map};
 ghost use Rattle.mem_map.specs.Image.{byte_in};
-ghost use Rattle.input_files.specs.Argument.{texts};
-ghost use Rattle.debug_cli.specs.{Begun.start_with, Session.{HasServed, IsSessionAnswer, Lives, live_row, live_row_of}};
+ghost use Rattle.input_files.specs.CommandLine.{texts};
+ghost use Rattle.debug_cli.specs.Session.{start_with, HasServed, IsSessionAnswer, Lives, live_row, live_row_of};
 
 use crate::answer_status::served_status;
 use crate::session_end::SessionEnd;

@@ -1,5 +1,5 @@
 ghost use Rattle.std.specs.Prelude.{◌≡◌};
-ghost use Rattle.input_files.specs.Argument.{texts};
+ghost use Rattle.input_files.specs.CommandLine.{texts};
 ghost use Rattle.debug_cli.specs.Session.{IsSessionAnswer, session_row_of};
 
 use crate::debug::{debug_files, run_debug};

@@ -2,7 +2,7 @@
 use Rattle.std.proofs.Common.{◌≡◌, ◌≤◌, ◌∙◌, ℕ, Result, Ok, Err, IsErr, sym, arith}
 use Rattle.std.specs.Prelude.{IsErrAnd}
 use Rattle.std.proofs.lemmas.Bool.{false≢true}
-use Rattle.outside_edge.specs.{Count.Rose, Sink.CountsFaults}
+use Rattle.outside_edge.specs.{Calls.Rose, Sink.CountsFaults}
 use Rattle.outside_edge.proofs.Counts.{rose_since}
 use Rattle.debug_link.specs.{Writing.CountsWriteFaults, declared.answer_fault.AnswerFault.{AnswerFault, TheVariants.Memory}}
 

@@ -1,6 +1,6 @@
 -- What is put into a sink of the bytes that a source gives, and why it ends.
 use Rattle.std.specs.Prelude.{◌≡◌, ◌≤◌, ◌++◌, ℕ, false, List, Option, Result, Ok, Err, OnErr, IfOk, IsTrue}
-use Rattle.outside_edge.specs.{Count.Rose, Sink.{Takes, TakesPrefix}}
+use Rattle.outside_edge.specs.{Calls.Rose, Sink.{Takes, TakesPrefix}}
 use Rattle.outside_edge.specs.declared.sink.Sink as sink
 use Rattle.source_server.specs.{declared.halt.Halt.{Halt, TheVariants.{Write, Own}}, Responder.{Moment, Promise}}
 use Rattle.debug_link.specs.{Conversation.{Answer, HaveCome, MayCome, OfSomeTalk, Talk, is_closed}, Reading.ReaderStandsFor, Writing.PacketSink, declared.{answer_fault.AnswerFault.AnswerFault, connection.Connection.Connection, packet_reader.PacketReader.PacketReader, packet_responder.PacketResponder.PacketResponder, talk_end.TalkEnd.{TalkEnd, TheVariants.{Closed, Memory}}}}

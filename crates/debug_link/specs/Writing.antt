@@ -1,6 +1,6 @@
 -- Packets that are put into a sink.
 use Rattle.std.specs.Prelude.{◌≡◌, ◌≤◌, ℕ, List, Result, OnErr, OnOk, IfOk, IfErr}
-use Rattle.outside_edge.specs.{Count.Rose, Sink.{Takes, TakesPrefix}}
+use Rattle.outside_edge.specs.{Calls.Rose, Sink.{Takes, TakesPrefix}}
 use Rattle.outside_edge.specs.declared.sink.Sink as sink
 use Rattle.debug_link.specs.{Conversation.{Answer, last_packet}, Packet.packets_of, declared.{answer_fault.AnswerFault.{AnswerFault, TheVariants.Write}, connection.Connection.Connection}}
 

@@ -3,7 +3,7 @@ use Rattle.std.specs.Prelude.{ℕ, ◌||◌, ◌%◌, Bool, true, false, suc, Li
 use Rattle.word_arith.specs.declared.size.Size.TheVariants.{Byte}
 use Rattle.device_types.specs.{declared.{bus_record.BusRecord.BusRecord, event.Event.Event, kind.Kind.TheVariants.Idle}, Map.{key_region, lies_in, stack_region}}
 use Rattle.printed_lines.specs.Line.{end_line}
-use Rattle.device_trace.specs.{Logs.{Logs, aux_of, exec_of}, Play.Play, Progress.{last_registers, next_pc_of, stands_at_boundary}, Signals.number_read, Start.Start, Step.next_record, Text.lines_of_step, Trace.{logs_after, play_of}}
+use Rattle.device_trace.specs.{Logs.{Logs, aux_of, exec_of}, Trace.{Play, logs_after, play_of}, Progress.{last_registers, next_pc_of, stands_at_boundary}, Signals.number_read, Start.Start, Step.next_record, Text.lines_of_step}
 use Rattle.trace_files.specs.{LineText.trace_line, TraceText.next_line}
 use Rattle.debug_session.specs.{Request.most_steps, Sight.{Sight, StepSight, View}, Watched.{hits_of, seen_accesses}}
 

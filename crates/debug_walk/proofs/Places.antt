@@ -1,7 +1,7 @@
 -- The step at a place, and where it leads.
 use Rattle.std.proofs.Common.{◌≡◌, ℕ, suc, length, refl}
 use Rattle.device_types.specs.declared.bus_record.BusRecord.{BusRecord}
-use Rattle.device_trace.specs.{Level.level_after, Logs.{Logs, progress_after, vector_of, with_events, with_record}, Progress.{Held, access_of, kind_of, progress_within}, Signals.signals_at, Step.{access_recorded, next_record, record_of}, Trace.logs_after}
+use Rattle.device_trace.specs.{Progress.{level_after, Held, access_of, kind_of, progress_within}, Logs.{Logs, progress_after, vector_of, with_events, with_record}, Signals.signals_at, Step.{access_recorded, next_record, record_of}, Trace.logs_after}
 use Rattle.debug_session.specs.Place.{Run, logs_at, step_at}
 
 -- the logs after the events of its step

@@ -1,9 +1,21 @@
 -- The copies that are left on a way, and the walks that go on from them.
-use Rattle.std.specs.Prelude.{◌≡◌, ◌<◌, ◌⊎◌, ℕ, true}
-use Rattle.std.specs.List.{All}
+use Rattle.std.specs.{Prelude.{◌≡◌, ◌<◌, ◌⊎◌, ℕ, true}, List.All}
 use Rattle.debug_session.specs.Place.{Run, sight_at}
-use Rattle.debug_walk.specs.{PlayedRun.played_run, Walk.{IsFresh, Walks, place_of}, declared.{copies.Copies.Copies, track.Track.Track, walk.Walk.Walk}}
+use Rattle.debug_walk.specs.{Walk.{IsFresh, Walks, place_of, second_flag}, declared.{copies.Copies.Copies, track.Track.Track, walk.Walk.Walk, run.Run.Run as GivenRun}}
 use Rattle.hmac_core.specs.Hash.{Hash}
+use Rattle.mem_map.specs.Image.{power_on_of}
+use Rattle.device_trace.specs.Start.{with_key}
+use Rattle.play_script.specs.Script.{events_of}
+
+-- The run that is played: a device at power-on, and a script.
+
+abbrev pub played_run : {D : Type 0} → Hash D → GivenRun → Run
+played_run hash run =
+    record {
+      start = with_key second_flag.value hash.digest_of run.key.now
+          (power_on_of run.key.now run.image.now).image;
+      events_at = events_of run.script.now;
+    }
 
 -- a walk of a run, which stands at a boundary
 pub record IsCopy {D : Type 0} (hash : Hash D) (run : Run)

@@ -1,6 +1,6 @@
 ghost use Rattle.std.specs.Prelude.{◌≡◌, IfOk, List};
 ghost use Rattle.debug_session.specs.declared.watch.Watch.{Watch};
-ghost use Rattle.debug_walk.specs.{PlayedRun.played_run, Walk.{IsStretch, Walks, place_of}};
+ghost use Rattle.debug_walk.specs.{Copies.played_run, Walk.{IsStretch, Walks, place_of}};
 
 use crate::walk::Walk;
 use device_core::{Live, power_on};

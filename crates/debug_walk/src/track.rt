@@ -1,6 +1,6 @@
 ghost use Rattle.std.specs.Prelude.{◌≡◌, ◌≤◌, ◌⊎◌, IfOk, true};
 ghost use Rattle.debug_session.specs.{Request.most_steps, Place.{Run as PlayedRun, sight_at}};
-ghost use Rattle.debug_walk.specs.{Copies.{IsAt, IsBefore, IsBegun, TrackStandsFor}, PlayedRun.played_run, Walk.{Walks, place_of}};
+ghost use Rattle.debug_walk.specs.{Copies.{IsAt, IsBefore, IsBegun, TrackStandsFor, played_run}, Walk.{Walks, place_of}};
 
 use crate::copies::Copies;
 use crate::run::Run;

@@ -11,7 +11,7 @@ use Rattle.verifier_desk.specs.{DeviceKey.DeviceKey, Replies.DeskFields}
 use Rattle.input_files.specs.{declared.{refusal.Refusal.Refusal, status.Status.{Status, TheVariants.Words}}, Reading.{Reaches, Reads}, Row.{RowOf, Ends}, Status.status_of_refusal}
 use Rattle.input_files.proofs.{Complete.{refused-complete, told-complete}, Refused.refused-words}
 use Rattle.desk_cli.specs.{Desk.{DeskNames, DeskValues, HasServed, IsDeskAnswer, Meets, ServesFrom, desk_row}, MemoryFiles.ToldMemories}
-use Rattle.source_server.specs.Ports.{Ports}
+use Rattle.source_server.specs.Serving.{Ports}
 use Rattle.desk_cli.proofs.{DeskComplete.serves-whole, DeskInput.{refused-limit, serves-limit}, NoWords.{served-words, uses-words}}
 
 -- the end of its row, once its files have values

@@ -4,16 +4,16 @@ use Rattle.std.specs.Option.{is_some}
 use Rattle.std.proofs.lemmas.Option.{same_Some}
 use Rattle.std.proofs.lemmas.Bool.{cases_Bool}
 use Rattle.sha2.specs.Sha256.{sha256}
-use Rattle.outside_edge.specs.Count.{Rose}
+use Rattle.outside_edge.specs.Calls.{Rose}
 use Rattle.outside_edge.specs.declared.sink.Sink as sink
 use Rattle.outside_edge.specs.declared.source.Source as source
 use Rattle.outside_edge.proofs.Counts.{never_rises}
 use Rattle.desk_memory.specs.declared.memory.Memory as memory
 use Rattle.desk_memory.specs.{declared.{memory_fault.MemoryFault.MemoryFault, no_memory.NoMemory.NoMemory}, Entry.{Entry, home_of, last_in}, NoMemory.forgets}
-use Rattle.source_server.specs.{declared.halt.Halt.Halt, Serving.served_of, Taken.most_input, Ports.Ports}
+use Rattle.source_server.specs.{declared.halt.Halt.Halt, Serving.{served_of, Ports}, Taken.most_input}
 use Rattle.source_server.specs.declared.halt.Halt.TheVariants as halt
 use Rattle.source_server.proofs.ServedEnds.{whole_or_stopped}
-use Rattle.verifier_desk.specs.{declared.answer_fault.AnswerFault.AnswerFault, DeviceKey.DeviceKey, Gone.first_gone, KeyOwner.KeysStandApart, Replies.DeskFields, Serving.{HasFailed, Outside, desk_promise}}
+use Rattle.verifier_desk.specs.{declared.answer_fault.AnswerFault.AnswerFault, DeviceKey.{DeviceKey, first_gone}, KeyOwner.KeysStandApart, Replies.DeskFields, Serving.{HasFailed, Outside, desk_promise}}
 use Rattle.verifier_desk.specs.declared.answer_fault.AnswerFault.TheVariants as fault
 use Rattle.input_files.specs.{declared.status.Status.{Status, TheVariants.{Done, Memory}}}
 use Rattle.desk_cli.specs.{Desk.{DeskValues, HasServed, IsTaken, MayServe, Meets, ServesFrom}, MemoryFiles.ToldMemories, Status.{status_of_served, status_of_unkept, status_of_unopened}}

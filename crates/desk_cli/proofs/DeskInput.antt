@@ -5,7 +5,7 @@ use Rattle.outside_edge.specs.declared.source.Source as source
 use Rattle.desk_memory.specs.declared.memory.Memory as memory
 use Rattle.desk_memory.specs.{declared.memory_fault.MemoryFault.MemoryFault, Entry.Entry, NoMemory.forgets}
 use Rattle.desk_database.specs.declared.memory_file_fault.MemoryFileFault.{MemoryFileFault}
-use Rattle.source_server.specs.{declared.served.Served.Served, Taken.KeepsLimit, Ports.Ports}
+use Rattle.source_server.specs.{declared.served.Served.Served, Taken.KeepsLimit, Serving.Ports}
 use Rattle.source_server.specs.declared.served.Served.TheVariants as served
 use Rattle.source_server.proofs.ServedEnds.{keeps_limit}
 use Rattle.verifier_desk.specs.{declared.answer_fault.AnswerFault.AnswerFault, Replies.DeskFields, Serving.desk_promise}

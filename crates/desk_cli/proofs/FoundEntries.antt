@@ -1,12 +1,12 @@
 -- The entries that are found in a memory, before an open or a making of it and after.
 use Rattle.std.proofs.Common.{◌≡◌, ◌⊎◌, ◌<◌, Bool, true, false, ℕ, List, Option, Some, None, IfSome, IsTrue, refl, sym, subst, ◌∙◌, inl, inr, arith}
 use Rattle.std.proofs.lemmas.Grind.{not_there}
-use Rattle.outside_edge.specs.Count.{Rose}
+use Rattle.outside_edge.specs.Calls.{Rose}
 use Rattle.sqlite_disk.specs.declared.Disk.{Ghosts}
 use Rattle.sqlite_wal.specs.Recovery.{Image}
 use Rattle.sqlite_pool.specs.Stored.{RecoversAs}
 use Rattle.sqlite_store.specs.declared.store.FileStore.{FileStore}
-use Rattle.desk_memory.specs.{Entry.Entry, SizedEntry.are_sized}
+use Rattle.desk_memory.specs.Entry.{Entry, are_sized}
 use Rattle.desk_database.specs.{Fault.IsOfPath, Held.{HoldsMemory, HoldsNothing}, Opening.{FailsAs, IsCleanLeft, IsMadeOver, IsOpenOver, Leaves, WhyUnmade, WhyUnopened}, MemoryTables.page_size, declared.{left.Left.Left, memory_file_fault.MemoryFileFault.{MemoryFileFault, TheVariants.{Place, Missing, InUse, HotJournal, Foreign, Disk, Full, OutOfMemory, Unfounded, Founded, OtherLog}}}}
 use Rattle.desk_database.specs.Opening as opening
 use Rattle.desk_database.specs.declared.left.Left.TheVariants as left

@@ -6,13 +6,13 @@ use Rattle.std.specs.List.{list_all}
 use Rattle.std.specs.Str.Lines.{lines}
 use Rattle.std.proofs.lemmas.Bool.{and_from, and_parts, eqb-true, leb-true, le-leb, lt-ltb}
 use Rattle.std.proofs.lemmas.Str.{IsUtf8-nil, IsUtf8-append}
-use Rattle.text_scan.specs.{LineFold.{lines_fold, text_fold}, Line.numbered_lines, Word.{is_passed_over, says_nothing}, declared.fault_kind.FaultKind.TheVariants.Digit}
-use Rattle.named_value.specs.PlainWord.{IsPlainWord, is_plain}
+use Rattle.text_scan.specs.{LineFold.{lines_fold, text_fold, numbered_lines}, Word.{is_passed_over, says_nothing}, declared.fault_kind.FaultKind.TheVariants.Digit}
+use Rattle.named_value.specs.Names.{IsPlainWord, is_plain}
 use Rattle.printed_lines.specs.Line.{line_of, with_pieces}
 use Rattle.line_buffer.specs.LineLaw.{ArePieces, IsFirstLine}
 use Rattle.line_buffer.proofs.PieceLines.{first_line, utf8_line}
 use Rattle.text_scan.proofs.{PlainWords.plain-encoded, TextUtf8.utf8_of-whole}
-use Rattle.desk_memory.specs.{declared.answer.Answer.Answer, Entry.{Entry, first_home, last_in, with_entries}, SizedEntry.{is_short, is_short_answer, is_short_line, is_short_number}}
+use Rattle.desk_memory.specs.{declared.answer.Answer.Answer, Entry.{Entry, first_home, last_in, with_entries, is_short, is_short_answer, is_short_line, is_short_number}}
 use Rattle.desk_database.proofs.AnswerWords.{answer-are, short-plain}
 use Rattle.verifier_desk.specs.DeviceKey.{is_name_character, name_fault}
 use Rattle.desk_cli.specs.{declared.line_form.LineForm.{LineForm, TheVariants.{VersionOne, Here, Gone}}, ReadBack.{AreNotable, IsWritable, StatesReadBack, VersionOneReadsBack}, StateFile.{entry_of, goes_behind, goes_on, is_in_range as ranged, states_of, with_line}, StateText.{desk_pieces, form_for, form_name, last_pieces, moves_pieces, number_piece, state_pieces, state_line, text_by, version_one_line}}

@@ -5,7 +5,7 @@ use Rattle.std.specs.Option.{is_some}
 use Rattle.std.specs.Str.{bytes_eq}
 use Rattle.std.proofs.lemmas.Bool.{and_from, and_parts, cases_Bool, eqb-false, eqb-true}
 use Rattle.std.proofs.lemmas.Slice.Eq.{bytes_eq-Decides}
-use Rattle.desk_memory.specs.{DeviceState.new_device, Entry.{Entry, first_home, is_replaced, owner_in, last_in, with_entries, with_entry}, EntryPlace.place_for}
+use Rattle.desk_memory.specs.{DeviceState.new_device, Entry.{Entry, first_home, is_replaced, owner_in, last_in, with_entries, with_entry, place_for}}
 use Rattle.desk_memory.proofs.Places.{with_entry-push}
 use Rattle.verifier_desk.specs.KeyOwner.{IsFreeFor}
 use Rattle.desk_cli.specs.StateFile.{entry_fault, goes_behind, is_in_range, is_owner}

@@ -2,15 +2,15 @@
 use Rattle.std.specs.Prelude.{◌≡◌, ◌<◌, ◌≤◌, ◌⊎◌, ◌↔◌, ◌+◌, ℕ, List, [], ◌∷◌, length, Option, Some, None, IfSome, Ok}
 use Rattle.sha2.specs.Sha256.{sha256}
 use Rattle.mem_map.specs.Image.{byte_in}
-use Rattle.outside_edge.specs.{Count.Rose, Shelf.KeepsFiles}
+use Rattle.outside_edge.specs.{Calls.Rose, Shelf.KeepsFiles}
 use Rattle.outside_edge.specs.declared.shelf.Shelf as shelves
 use Rattle.outside_edge.specs.declared.sink.Sink as sink
 use Rattle.outside_edge.specs.declared.source.Source as source
 use Rattle.report_verifier.specs.Policy.{PolicyFields}
 use Rattle.desk_memory.specs.declared.memory.Memory as memory
 use Rattle.desk_memory.specs.{declared.no_memory.NoMemory.NoMemory, Entry.Entry, NoMemory.forgets}
-use Rattle.source_server.specs.{declared.served.Served.Served, Serving.Serves, Taken.{KeepsLimit, most_input}, Ports.Ports}
-use Rattle.verifier_desk.specs.{declared.answer_fault.AnswerFault.AnswerFault, Desk.desk_with, DeviceKey.DeviceKey, Gone.first_gone, KeyOwner.{IsFirstTaken, KeysStandApart}, Replies.DeskFields, Serving.desk_promise}
+use Rattle.source_server.specs.{declared.served.Served.Served, Serving.{Serves, Ports}, Taken.{KeepsLimit, most_input}}
+use Rattle.verifier_desk.specs.{declared.answer_fault.AnswerFault.AnswerFault, Desk.desk_with, DeviceKey.{DeviceKey, first_gone}, KeyOwner.{IsFirstTaken, KeysStandApart}, Replies.DeskFields, Serving.desk_promise}
 use Rattle.input_files.specs.{declared.{status.Status.{Status, TheVariants.{BadMemory, Done, Memory, Spent, Words}}, unfit.Unfit.TheVariants.{GoneDevice, TakenKey}}, FileKind.image_kind, Reading.{IsUnread, Reaches, first_refusal}, Row.{RowOf, Ends, read_file}}
 use Rattle.desk_cli.specs.{declared.desk.FileValues.FileValues, FileKind.{desk_policy_kind, keys_kind}, MemoryFiles.{IsUnhindered, ToldMemories, UsesIf}, Status.status_of_served}
 

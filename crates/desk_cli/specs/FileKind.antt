@@ -5,7 +5,7 @@ use Rattle.text_scan.specs.{declared.{fault_at.FaultAt.FaultAt, fault_kind.Fault
 use Rattle.report_verifier.specs.{Policy.PolicyFields, PolicyGrammar.policy_of, Verdict.same_version}
 use Rattle.verifier_desk.specs.DeviceKey.{DeviceKey, devices_of}
 use Rattle.input_files.specs.declared.bad_file.BadFile.TheVariants as bad
-use Rattle.input_files.specs.{Limit.policy_limit, Row.FileKind}
+use Rattle.input_files.specs.{FileKind.policy_limit, Row.FileKind}
 use Rattle.desk_cli.specs.StateFile.{NumberedEntries, numbered_entries_of}
 
 -- the longest file of keys, in bytes

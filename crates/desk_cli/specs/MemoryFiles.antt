@@ -1,6 +1,6 @@
 -- Memories that are opened or made by their names: what is found in one, and why one is not got.
 use Rattle.std.specs.Prelude.{◌≡◌, ◌⊎◌, ℕ, List, [], Option, Some, IfSome}
-use Rattle.outside_edge.specs.Count.{Rose}
+use Rattle.outside_edge.specs.Calls.{Rose}
 use Rattle.desk_memory.specs.declared.memory.Memory as memory
 use Rattle.desk_memory.specs.Entry.{Entry}
 use Rattle.desk_database.specs.{declared.memory_file_fault.MemoryFileFault.{MemoryFileFault, TheVariants.OutOfMemory}}

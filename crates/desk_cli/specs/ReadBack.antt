@@ -3,7 +3,7 @@
 use Rattle.std.specs.Prelude.{◌≡◌, Bool, true, ℕ, List, [], ◌∷◌, nat_le, Option, Some, None, IfSome, Ok, IsTrue}
 use Rattle.std.specs.List.{All}
 use Rattle.hex.specs.Hex.{IsBytes}
-use Rattle.desk_memory.specs.{Entry.{Entry, first_home, last_in, owner_in, with_entries, with_entry}, SizedEntry.is_sized}
+use Rattle.desk_memory.specs.Entry.{Entry, first_home, last_in, owner_in, with_entries, with_entry, is_sized}
 use Rattle.verifier_desk.specs.{DeviceKey.name_fault, KeyOwner.IsFreeFor}
 use Rattle.desk_cli.specs.{StateFile.{goes_on, is_in_range, states_of}, StateText.{states_text, version_one_text}}
 

@@ -4,7 +4,7 @@ use Rattle.std.specs.Fmt.{decimal}
 use Rattle.hex.specs.Hex.{encode_lower}
 use Rattle.named_value.specs.Names.{Names}
 use Rattle.printed_lines.specs.Line.{line_of}
-use Rattle.desk_memory.specs.{declared.answer.Answer.Answer, AnswerText.answer_words, Entry.Entry}
+use Rattle.desk_memory.specs.{declared.answer.Answer.Answer, AnswerReader.answer_words, Entry.Entry}
 use Rattle.desk_cli.specs.{declared.line_form.LineForm.{LineForm, TheVariants.{VersionOne, Here, Gone}}}
 
 -- the first word of a line, by which its form is known

@@ -1,6 +1,6 @@
 -- The command `states`: the entries of a memory as text.
 use Rattle.std.specs.Prelude.{◌≡◌, ◌≤◌, ◌⊎◌, ◌↔◌, ℕ, List, [], ◌∷◌, Option, Some, None, IfSome}
-use Rattle.outside_edge.specs.{Count.Rose, Sink.{Takes, TakesPrefix}}
+use Rattle.outside_edge.specs.{Calls.Rose, Sink.{Takes, TakesPrefix}}
 use Rattle.outside_edge.specs.declared.sink.Sink as sink
 use Rattle.desk_memory.specs.declared.memory.Memory as memory
 use Rattle.desk_memory.specs.Entry.{Entry}

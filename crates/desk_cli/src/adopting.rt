@@ -1,7 +1,7 @@
 ghost use Rattle.std.specs.Prelude.{◌≡◌, List, None, option_map, IfErr, IfOk};
 ghost use Rattle.desk_memory.specs.{Entry.{Entry as EntryFields, last_in}, Moving.{adoption_fault, entry_on_arrival, entries_on_arrival, came_by, is_behind_last, is_needed}};
 ghost use Rattle.verifier_desk.specs.Serving.{Keeps};
-ghost use Rattle.input_files.specs.Argument.{texts};
+ghost use Rattle.input_files.specs.CommandLine.{texts};
 ghost use Rattle.desk_cli.specs.Adopt.{Adopts, IsAdoptAnswer, IsUntaken, adopt_names_of, first_refused};
 
 use crate::answer_status::{noted_status, unopened_status};

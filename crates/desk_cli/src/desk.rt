@@ -2,7 +2,7 @@ ghost use Rattle.std.specs.Prelude.{◌≡◌, ◌≤◌, [], List, option_map, 
 ghost use Rattle.mem_map.specs.Image.{byte_in};
 ghost use Rattle.desk_memory.specs.{Entry.Entry, declared.no_memory.NoMemory.NoMemory as Forgetful, NoMemory.forgets};
 ghost use Rattle.verifier_desk.specs.{Desk.{DeskStandsFor, desk_with, no_lines_of}, Replies.DeskFields, Serving.Keeps};
-ghost use Rattle.input_files.specs.Argument.{texts};
+ghost use Rattle.input_files.specs.CommandLine.{texts};
 ghost use Rattle.desk_cli.specs.Desk.{HasServed, IsDeskAnswer, Meets, ServesFrom, desk_names_of, values_of};
 
 use crate::answer_status::{served_status, unopened_status};

@@ -1,6 +1,6 @@
 ghost use Rattle.std.specs.Prelude.{◌≡◌, option_map};
 ghost use Rattle.desk_memory.specs.Entry.{Entry as EntryFields};
-ghost use Rattle.input_files.specs.Argument.{texts};
+ghost use Rattle.input_files.specs.CommandLine.{texts};
 ghost use Rattle.desk_cli.specs.Founding.{FoundsIf, IsFoundAnswer, IsRememberAnswer, found_names_of, is_name, remember_names_of};
 
 use crate::answer_status::{noted_status, unopened_status};

@@ -1,5 +1,5 @@
 ghost use Rattle.std.specs.Prelude.{◌≡◌, slice_index_or, IfOk};
-ghost use Rattle.text_scan.specs.{Line.text_lines, Reader.Reads};
+ghost use Rattle.text_scan.specs.{LineFold.text_lines, Reader.Reads};
 ghost use Rattle.desk_cli.specs.StateFile.{numbered_entries_of, said_numbers};
 
 use crate::state_list::{StateList, read_states};

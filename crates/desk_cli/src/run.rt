@@ -1,5 +1,5 @@
 ghost use Rattle.std.specs.Prelude.{◌≡◌, IfSome, codes};
-ghost use Rattle.input_files.specs.{Argument.texts, declared.status.Status.TheVariants.Words};
+ghost use Rattle.input_files.specs.{CommandLine.texts, declared.status.Status.TheVariants.Words};
 ghost use Rattle.desk_cli.specs.{Adopt.{IsAdoptAnswer, adopt_names_of}, Desk.{IsDeskAnswer, desk_names_of}, Founding.{IsFoundAnswer, IsRememberAnswer, found_names_of, remember_names_of}, Move.{IsMoveAnswer, move_names_of}, Run.{HasNoCommand, arguments_behind}, States.{IsStatesAnswer, states_name_of}};
 
 use crate::adopting::run_adopt;

@@ -1,6 +1,6 @@
 ghost use Rattle.std.specs.Prelude.{◌≡◌, ◌≤◌, List, option_map};
 ghost use Rattle.desk_memory.specs.Entry.{Entry as EntryFields};
-ghost use Rattle.input_files.specs.Argument.{texts};
+ghost use Rattle.input_files.specs.CommandLine.{texts};
 ghost use Rattle.desk_cli.specs.{StateText.states_text, States.{IsStatesAnswer, PutsText, states_name_of}};
 
 use crate::answer_status::unopened_status;

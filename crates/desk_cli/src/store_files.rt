@@ -32,7 +32,7 @@ pub struct StoreFiles<P: Drop, D: Disk, M: Drop> {
 
 impl<P: Drop, D: Disk + Drop> StoreFiles<P, D, FileMemory<D>> {
     ghost use Rattle.std.specs.Prelude.{◌≡◌, None, IfErr, OnErr, OnOk, false, true};
-    ghost use Rattle.outside_edge.specs.Count.{Rose};
+    ghost use Rattle.outside_edge.specs.Calls.{Rose};
     ghost use Rattle.desk_database.specs.declared.memory_file_fault.MemoryFileFault.TheVariants.{InUse};
 
     pub fn new(alloc: Global, places: P) -> StoreFiles<P, D, FileMemory<D>>

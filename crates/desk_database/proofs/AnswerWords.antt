@@ -2,13 +2,13 @@
 use Rattle.std.proofs.Common.{◌≡◌, ◌∙◌, ℕ, ◌^◌, ◌≤◌, List, [], ◌∷◌, Some, None, Result, Ok, Err, true, refl, ap, sym, arith, rules}
 use Rattle.std.specs.Fmt.{decimal}
 use Rattle.std.proofs.lemmas.Bool.{ltb-true}
-use Rattle.named_value.specs.{Names.value_named, PlainWord.IsPlainWord}
+use Rattle.named_value.specs.Names.{value_named, IsPlainWord}
 use Rattle.text_scan.specs.{declared.fault_kind.FaultKind.FaultKind, FaultName.{fault_name, fault_names}, Word.words_of, WordValue.number_of}
 use Rattle.text_scan.proofs.{NamedWord.value_of-name, PlainWords.{ArePlain, decimal_of-decimal, plain-decimal, words_of-join}}
 use Rattle.line_buffer.specs.LineLaw.{ArePieces}
 use Rattle.report_text.proofs.ReadLines.{plain-verdict, verdict_told}
-use Rattle.report_verifier.specs.VerdictName.{verdict_names}
-use Rattle.desk_memory.specs.{declared.answer.Answer.{Answer, TheVariants.{Stale, Bad, Spent, Requested, Judged}}, AnswerReader.{answer_of, answer_with, most_number}, AnswerText.{answer_text, answer_words}, SizedEntry.{is_short, is_short_answer}}
+use Rattle.report_verifier.specs.Verdict.{verdict_names}
+use Rattle.desk_memory.specs.{declared.answer.Answer.{Answer, TheVariants.{Stale, Bad, Spent, Requested, Judged}}, AnswerReader.{answer_of, answer_with, most_number, answer_text, answer_words}, Entry.{is_short, is_short_answer}}
 
 pub short : (number : ℕ) → is_short number ≡ true → number ≤ 4294967295
 short number is = let below = ltb-true number (2 ^ 32) is in omega (arith, below)

@@ -8,7 +8,7 @@ use Rattle.sqlite_value.specs.declared.value.Value.TheVariants.{Int}
 use Rattle.sqlite_value.specs.Order.{Row, value_cmp}
 use Rattle.sqlite_value.proofs.OrderLemmas.{value_cmp-Int}
 use Rattle.sqlite_trees.specs.Tree.{Trees, put_row}
-use Rattle.desk_memory.specs.{declared.answer.Answer.Answer, Entry.{Entry, is_replaced, with_entry}, EntryPlace.place_for, SizedEntry.{are_sized, is_short, is_short_answer, is_short_line, is_short_number, is_sized}}
+use Rattle.desk_memory.specs.{declared.answer.Answer.Answer, Entry.{Entry, is_replaced, with_entry, place_for, are_sized, is_short, is_short_answer, is_short_line, is_short_number, is_sized}}
 use Rattle.desk_database.specs.{TableOpening.HasNoEntries, Rows.{line_values, number_value, row_of, rows_from, text_value}, Table.{FindsEntries, IsMemoryOf}}
 use Rattle.desk_database.proofs.AnswerWords.{answer_text-injective}
 

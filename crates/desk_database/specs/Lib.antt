@@ -1,8 +1,6 @@
-pub mod Law
 pub mod TableOpening
 pub mod Rows
 pub mod Table
-pub mod Version
 pub mod MemoryTables
 pub mod Fault
 pub mod Log

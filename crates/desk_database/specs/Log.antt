@@ -1,10 +1,34 @@
 -- Whether a log is that of a file's last opening, by SQLite's user version.
-use Rattle.std.specs.Prelude.{◌≡◌, ◌⊎◌, ◌<◌, ◌≤◌, ℕ, List, Option, None, Some, length, slice_index, take, drop}
-use Rattle.sqlite_pool.specs.Header.{user_version}
-use Rattle.sqlite_pool.specs.Stored.{sum_bytes}
-use Rattle.sqlite_wal.specs.Format.{content, page_number}
-use Rattle.sqlite_wal.specs.Recovery.{Image, Replays, file_page, frame, page_after}
-use Rattle.desk_database.specs.{Version.next_version, MemoryTables.page_size, declared.{first_page.FirstPage.{FirstPage, TheVariants.{Short, Torn, Whole}}, log_fit.LogFit.{LogFit, TheVariants.{Begun, Fits, Other}}}}
+use Rattle.std.specs.Prelude.{◌≡◌, ◌⊎◌, ◌<◌, ◌≤◌, ℕ, List, Option, None, Some, length, slice_index, take, drop, ◌==◌, ◌+◌, ◌%◌, ◌^◌, if◌then◌else◌, [], ◌∷◌}
+use Rattle.sqlite_pool.specs.{Header.user_version, Stored.sum_bytes}
+use Rattle.sqlite_wal.specs.{Format.{content, page_number}, Recovery.{Image, Replays, file_page, frame, page_after}}
+use Rattle.desk_database.specs.{MemoryTables.page_size, declared.{first_page.FirstPage.{FirstPage, TheVariants.{Short, Torn, Whole}}, log_fit.LogFit.{LogFit, TheVariants.{Begun, Fits, Other}}}}
+use Rattle.sqlite_value.specs.Order.{Row, column}
+use Rattle.sqlite_trees.specs.{Objects.{number_in, version_tree, with_version}, Tree.Trees}
+
+-- SQLite's user version counts the commits of a memory.
+
+abbrev pub user_version_in : List Row → ℕ
+user_version_in [] = 0
+user_version_in (row ∷ more) = number_in (column row 1)
+
+abbrev pub version_of : Trees → ℕ
+version_of trees = user_version_in (trees version_tree)
+
+abbrev pub next_version : ℕ → ℕ
+next_version version = (version + 1) % 2 ^ 32
+
+-- these trees, counted once more
+abbrev pub with_next_version : Trees → Trees
+with_next_version trees = with_version trees (next_version (version_of trees))
+
+-- The version of a memory that is made: a new one, or the next where a making before was cut off.
+abbrev pub first_version : ℕ → ℕ → ℕ
+first_version version new = if version == 0 then new else next_version version
+
+-- these trees, once a memory is made over them
+abbrev pub with_first_version : Trees → ℕ → Trees
+with_first_version trees new = with_version trees (first_version (version_of trees) new)
 
 -- the bytes of a page as it is stored
 abbrev pub stored_page : ℕ

@@ -12,7 +12,7 @@ use Rattle.sqlite_store.specs.FileStore as file_store
 use Rattle.sqlite_store.specs.declared.store.FileStore.{FileStore}
 use Rattle.sqlite_store.specs.Unopened.{state_of, StopsCreating}
 use Rattle.desk_memory.specs.Entry.{Entry}
-use Rattle.desk_database.specs.{Table.{HasSameRows, IsMemoryOf, IsUnfounded}, Version.with_next_version, Held.{HoldsMemory, HoldsNothing, HoldsUnfounded, CanBeFounded, HasEntries, MayBeMemory}, Log.{CanReplay, FitsLog, FitsMaking, stored_page}, declared.{left.Left.Left, memory_file_fault.MemoryFileFault.{MemoryFileFault, TheVariants.{Place, Missing, InUse, HotJournal, Foreign, Disk, Full, OutOfMemory, Unfounded, Founded, OtherLog}}}}
+use Rattle.desk_database.specs.{Table.{HasSameRows, IsMemoryOf, IsUnfounded}, Log.{with_next_version, CanReplay, FitsLog, FitsMaking, stored_page}, Held.{HoldsMemory, HoldsNothing, HoldsUnfounded, CanBeFounded, HasEntries, MayBeMemory}, declared.{left.Left.Left, memory_file_fault.MemoryFileFault.{MemoryFileFault, TheVariants.{Place, Missing, InUse, HotJournal, Foreign, Disk, Full, OutOfMemory, Unfounded, Founded, OtherLog}}}}
 use Rattle.desk_database.specs.declared.left.Left.TheVariants as left
 
 -- the trees are those of the tables that the files held; where there were none, they have no row

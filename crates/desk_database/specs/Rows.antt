@@ -1,10 +1,8 @@
 -- The two tables of a memory: that of devices has a row for each entry, at its place; that of the
 -- desk has one row.
-use Rattle.std.specs.Prelude.{ℕ, ◌+◌, pos, List, [], ◌∷◌, Option, Some, None}
-use Rattle.sqlite_value.specs.declared.value.Value.{Value}
-use Rattle.sqlite_value.specs.declared.value.Value.TheVariants.{Null, Int, Text, Blob}
-use Rattle.sqlite_value.specs.Order.{Row}
-use Rattle.desk_memory.specs.{declared.answer.Answer.Answer, AnswerText.answer_text, Entry.Entry}
+use Rattle.std.specs.Prelude.{ℕ, ◌+◌, pos, List, [], ◌∷◌, Option, Some, None, ◌≡◌, IsTrue}
+use Rattle.sqlite_value.specs.{declared.value.Value.{Value, TheVariants.{Null, Int, Text, Blob}}, Order.Row}
+use Rattle.desk_memory.specs.{declared.answer.Answer.Answer, AnswerReader.answer_text, Entry.{Entry, are_sized}}
 
 abbrev pub number_value : Option ℕ → Value
 number_value None = Null
@@ -41,3 +39,11 @@ desk_row desk = Int (pos 0) ∷ Null ∷ Text desk ∷ Int (pos format_version) 
 
 abbrev pub desk_rows : List ℕ → List Row
 desk_rows desk = desk_row desk ∷ []
+
+-- What the table says of the entries.
+
+-- no two lists of entries of the code have the same rows
+abbrev pub IsOfOneList : Type 0
+IsOfOneList =
+    (entries others : List Entry) → IsTrue (are_sized entries) → IsTrue (are_sized others)
+    → rows_from 0 entries ≡ rows_from 0 others → entries ≡ others

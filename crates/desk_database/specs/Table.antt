@@ -5,7 +5,7 @@ use Rattle.sqlite_trees.specs.View.{View, IsClean}
 use Rattle.sqlite_trees.specs.declared.error.StoreError.{StoreError}
 use Rattle.sqlite_trees.specs.declared.error.StoreError.TheVariants.{OutOfMemory, Unstorable}
 use Rattle.sqlite_trees.specs.declared.store.Shape.TheVariants.{Table}
-use Rattle.desk_memory.specs.{declared.memory_fault.MemoryFault.{MemoryFault, TheVariants.{Memory, Failed}}, Entry.Entry, SizedEntry.are_sized}
+use Rattle.desk_memory.specs.{declared.memory_fault.MemoryFault.{MemoryFault, TheVariants.{Memory, Failed}}, Entry.{Entry, are_sized}}
 use Rattle.desk_database.specs.Rows.{desk_rows, rows_from}
 
 -- the memory of this desk, with these entries

@@ -5,7 +5,7 @@ use Rattle.sqlite_trees.specs.Tree.{Trees}
 use Rattle.sqlite_trees.specs.View.{IsClean, View, doubt}
 use Rattle.sqlite_trees.specs.declared.error.StoreError.{StoreError}
 use Rattle.sqlite_trees.specs.declared.error.StoreError.TheVariants.{OutOfMemory, Unstorable}
-use Rattle.desk_memory.specs.{Entry.Entry, SizedEntry.are_sized}
+use Rattle.desk_memory.specs.Entry.{Entry, are_sized}
 use Rattle.desk_database.specs.{declared.open_fault.OpenFault.{OpenFault, TheVariants.{Memory, Failed, Foreign, Unfounded, Founded}}, Rows.{desk_rows, rows_from}, Table.{HasSameRows, IsFounded, IsUnfounded}}
 
 -- nothing but cursors has moved

@@ -1,6 +1,6 @@
 ghost use Rattle.std.specs.Prelude.{◌≡◌, IfSome, IsTrue};
 ghost use Rattle.text_scan.specs.Reader.{ReadsOn};
-ghost use Rattle.desk_memory.specs.{AnswerReader.{answer_of, answer_with}, AnswerText.answer_text, SizedEntry.is_short_answer, declared.answer.Answer.Answer as Said};
+ghost use Rattle.desk_memory.specs.{AnswerReader.{answer_of, answer_with, answer_text}, Entry.is_short_answer, declared.answer.Answer.Answer as Said};
 
 use crate::printed_answer::answer_text;
 use desk_memory::Answer;

@@ -2,7 +2,7 @@ ghost use Rattle.std.specs.Prelude.{◌≡◌, ◌⊎◌, ◌≤◌, false, IfEr
 ghost use Rattle.sqlite_disk.specs.Disk.{MoreFaults};
 ghost use Rattle.sqlite_trees.specs.Tree.{Trees};
 ghost use Rattle.sqlite_trees.specs.View.{HasCause, IsClean, doubt};
-ghost use Rattle.desk_database.specs.{TableOpening.{IsCommitted, KeepsRows}, Version.{with_next_version, first_version, with_first_version}};
+ghost use Rattle.desk_database.specs.{TableOpening.{IsCommitted, KeepsRows}, Log.{with_next_version, first_version, with_first_version}};
 
 use crate::logged::Logged;
 use sqlite_trees::error::StoreError;

@@ -1,5 +1,5 @@
 ghost use Rattle.std.specs.Prelude.{◌≡◌, ◌≤◌, length};
-ghost use Rattle.desk_memory.specs.AnswerText.{answer_text};
+ghost use Rattle.desk_memory.specs.AnswerReader.{answer_text};
 
 use desk_memory::Answer;
 use line_buffer::LineBuffer;

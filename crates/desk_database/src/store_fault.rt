@@ -1,5 +1,5 @@
 ghost use Rattle.std.specs.Prelude.{◌≡◌, ◌≤◌};
-ghost use Rattle.outside_edge.specs.Count.{Rose};
+ghost use Rattle.outside_edge.specs.Calls.{Rose};
 ghost use Rattle.desk_memory.specs.declared.memory_fault.MemoryFault.TheVariants.{Failed};
 ghost use Rattle.desk_database.specs.Table.{fault_of};
 

@@ -2,8 +2,8 @@ ghost use Rattle.std.specs.Prelude.{◌≡◌, ◌↔◌, [], IfErr, IfOk, IsTru
 ghost use Rattle.sqlite_disk.specs.Disk.{MoreFaults};
 ghost use Rattle.sqlite_trees.specs.Tree.{Trees};
 ghost use Rattle.sqlite_trees.specs.View.{IsClean, IsQuiet};
-ghost use Rattle.desk_memory.specs.SizedEntry.{are_sized};
-ghost use Rattle.desk_database.specs.{TableOpening.{HasReason, IsForeign, KeepsRows, OnlyReads}, Table.{HasRows, HasTables, IsFaulty, IsFounded, IsMemoryOf, IsOpened, IsTableOf, IsUnfounded}, Version.{with_next_version, with_first_version}};
+ghost use Rattle.desk_memory.specs.Entry.{are_sized};
+ghost use Rattle.desk_database.specs.{TableOpening.{HasReason, IsForeign, KeepsRows, OnlyReads}, Table.{HasRows, HasTables, IsFaulty, IsFounded, IsMemoryOf, IsOpened, IsTableOf, IsUnfounded}, Log.{with_next_version, with_first_version}};
 
 use crate::counted_commit::{commit_counted, commit_first, count_opening};
 use crate::entry_row::{desk_row, row_of};
@@ -151,7 +151,7 @@ fn open_desk<S: Logged>(alloc: Global, store: &mut S) -> Result<(Vec<u8>, Vec<En
 impl<S: Logged + Drop> StoreMemory<S> {
     ghost use Rattle.std.specs.Prelude.{◌≡◌, ◌⊎◌, ◌≤◌, [], None, IfErr, IfOk, IfSome, IsTrue, OnOk};
     ghost use Rattle.sqlite_trees.specs.View.{doubt};
-    ghost use Rattle.desk_memory.specs.{declared.memory_fault.MemoryFault.TheVariants.Failed, Entry.with_entry, Kept.CountsOrLacks, SizedEntry.is_sized};
+    ghost use Rattle.desk_memory.specs.{declared.memory_fault.MemoryFault.TheVariants.Failed, Entry.{with_entry, is_sized}, Kept.CountsOrLacks};
 
     /// Opens the memory in a store that was just opened. It changes no row, and counts two commits.
     /// A store that it refuses is handed back.

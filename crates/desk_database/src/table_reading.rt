@@ -3,7 +3,7 @@ ghost use Rattle.std.specs.Option.{option_map};
 ghost use Rattle.sqlite_disk.specs.Disk.{MoreFaults};
 ghost use Rattle.sqlite_trees.specs.declared.store.Shape.TheVariants.{Table};
 ghost use Rattle.sqlite_trees.specs.View.{HasCause, IsClean, IsQuiet};
-ghost use Rattle.desk_memory.specs.SizedEntry.{are_sized};
+ghost use Rattle.desk_memory.specs.Entry.{are_sized};
 ghost use Rattle.desk_database.specs.{TableOpening.{HasNoDesk, HasNoEntries, HasReason, IsForeign, OnlyReads, Reads, rows_of_desk}, Rows.rows_from, Table.{HasTables, IsMemoryOf, IsOpened, IsUnfounded}};
 
 use crate::open_fault::OpenFault;

@@ -3,7 +3,7 @@
 #![tactic(auto)]
 
 ghost use Rattle.std.specs.Prelude.{◌≡◌};
-ghost use Rattle.input_files.specs.{Argument.texts, declared.status.Status.TheVariants.Words};
+ghost use Rattle.input_files.specs.{CommandLine.texts, declared.status.Status.TheVariants.Words};
 ghost use Rattle.desk_cli.specs.Run.{HasNoCommand};
 
 mod help_text;

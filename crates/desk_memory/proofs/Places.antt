@@ -3,7 +3,7 @@ use Rattle.std.proofs.Common.{◌≡◌, ◌∙◌, ◌≤◌, ◌<◌, ◌+◌,
 use Rattle.std.specs.Option.{is_some}
 use Rattle.std.proofs.lemmas.Bool.{cases_Bool}
 use Rattle.std.specs.Str.{bytes_eq}
-use Rattle.desk_memory.specs.{Entry.{Entry, is_replaced, last_in, with_entry}, EntryPlace.place_for}
+use Rattle.desk_memory.specs.Entry.{Entry, is_replaced, last_in, with_entry, place_for}
 
 -- the place that is known from the entries so far, unless the rest has a later one
 abbrev pub place_from : ℕ → ℕ → List Entry → Entry → ℕ

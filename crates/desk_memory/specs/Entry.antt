@@ -1,9 +1,8 @@
 -- What a desk's memory keeps: an entry for each device and each key that it was served under, the
 -- oldest first.
-use Rattle.std.specs.Prelude.{ℕ, ◌&&◌, Bool, List, [], ◌∷◌, if◌then◌else◌, not, Option, Some, None, option_map, unwrap_or}
-use Rattle.std.specs.Option.{is_some}
-use Rattle.std.specs.Str.{bytes_eq}
-use Rattle.desk_memory.specs.{declared.device_state.DeviceState.DeviceState, DeviceState.{new_device, under_new_key}}
+use Rattle.std.specs.{Prelude.{ℕ, ◌&&◌, Bool, List, [], ◌∷◌, if◌then◌else◌, not, Option, Some, None, option_map, unwrap_or, suc, ◌^◌, ◌==◌, true, length, nat_lt}, Option.is_some, Str.bytes_eq, List.list_all}
+use Rattle.desk_memory.specs.{declared.{device_state.DeviceState.DeviceState, answer.Answer.{Answer, TheVariants.Requested}}, DeviceState.{new_device, under_new_key}}
+use Rattle.outside_edge.specs.Calls.{CallCounts}
 use Rattle.desk_memory.specs.declared.home.Home as code
 
 -- how often a device has moved from desk to desk, and the desk that it is gone to; without one it
@@ -85,3 +84,49 @@ entry_at home note =
 -- the entries after a note: its device stays at home where it was
 abbrev pub with_note : List Entry → Note → List Entry
 with_note entries note = with_entry entries (entry_at (home_of (last_in entries note.name)) note)
+
+-- Where one more entry changes the entries.
+
+-- at its device's last, where that has its mark, and else behind all
+abbrev pub place_for : List Entry → Entry → ℕ
+place_for [] new = 0
+place_for (entry ∷ later) new =
+    if is_replaced entry later new then 0 else suc (place_for later new)
+
+-- Entries as the code can have them: marks of 16 bytes, numbers of 32 bits.
+
+abbrev pub is_short : ℕ → Bool
+is_short number = nat_lt number (2 ^ 32)
+
+abbrev pub is_short_answer : Answer → Bool
+is_short_answer (Requested count) = is_short count
+is_short_answer answer = true
+
+abbrev pub is_short_number : Option ℕ → Bool
+is_short_number None = true
+is_short_number (Some number) = is_short number
+
+abbrev pub is_short_line : Option (ℕ × Answer) → Bool
+is_short_line None = true
+is_short_line (Some last) = is_short last.0 && is_short_answer last.1
+
+abbrev pub is_sized : Entry → Bool
+is_sized entry =
+    length entry.mark == 16
+    && is_short entry.state.count
+    && is_short_number entry.state.outstanding
+    && is_short_line entry.state.last
+    && is_short entry.home.moves
+
+abbrev pub are_sized : List Entry → Bool
+are_sized entries = list_all is_sized entries
+
+-- A memory for tests.
+
+-- The desk that it belongs to, the entries now, those of the last call that settled them, where one
+-- did, and its counts.
+pub record MemoryInMemory : Type 0 where
+  pub desk : List ℕ
+  pub entries : List Entry
+  pub settled : Option (List Entry)
+  pub counts : CallCounts

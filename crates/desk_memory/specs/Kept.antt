@@ -1,6 +1,6 @@
 -- What a memory keeps through a crash.
 use Rattle.std.specs.Prelude.{◌≡◌, ◌≤◌, ◌⊎◌, ℕ, List, Result, IfErr}
-use Rattle.outside_edge.specs.Count.{Rose}
+use Rattle.outside_edge.specs.Calls.{Rose}
 use Rattle.desk_memory.specs.{declared.memory_fault.MemoryFault.{MemoryFault, TheVariants.Memory}, Entry.Entry}
 
 -- a call that fails has counted a fault, or was refused memory where it takes any

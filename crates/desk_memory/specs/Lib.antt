@@ -1,12 +1,8 @@
 pub mod AnswerReader
-pub mod AnswerText
 pub mod DeviceState
 pub mod Entry
-pub mod EntryPlace
 pub mod Kept
 pub mod KeyMark
 pub mod Law
 pub mod NoMemory
-pub mod MemMemory
 pub mod Moving
-pub mod SizedEntry

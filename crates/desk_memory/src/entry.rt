@@ -1,5 +1,5 @@
 ghost use Rattle.std.specs.Prelude.{◌≡◌, IfOk, IsTrue};
-ghost use Rattle.desk_memory.specs.{Entry.{entry_state, home_fields}, SizedEntry.is_sized};
+ghost use Rattle.desk_memory.specs.Entry.{entry_state, home_fields, is_sized};
 
 use crate::device_state::DeviceState;
 use crate::home::Home;

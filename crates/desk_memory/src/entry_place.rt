@@ -1,5 +1,5 @@
 ghost use Rattle.std.specs.Prelude.{◌≡◌, ◌<◌, ◌≤◌, length};
-ghost use Rattle.desk_memory.specs.{Entry.with_entry, EntryPlace.place_for};
+ghost use Rattle.desk_memory.specs.Entry.{with_entry, place_for};
 
 use crate::entry::Entry;
 

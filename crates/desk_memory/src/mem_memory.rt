@@ -29,7 +29,7 @@ pub struct MemMemory {
 
 impl Model for MemMemory {
     ghost use Rattle.std.specs.Option.{option_map};
-    ghost use Rattle.desk_memory.specs.MemMemory.{MemoryInMemory};
+    ghost use Rattle.desk_memory.specs.Entry.{MemoryInMemory};
 
     ghost Value = { MemoryInMemory };
 

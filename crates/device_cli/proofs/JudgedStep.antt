@@ -4,7 +4,7 @@ use Rattle.std.specs.Prelude.{IsErrAnd}
 use Rattle.device_types.specs.{Address.Bytes, declared.event.Event.Event}
 use Rattle.outside_edge.specs.Sink.{Puts, Takes}
 use Rattle.outside_edge.proofs.SinkLemmas.{prefix_after, takes_both}
-use Rattle.device_trace.specs.{Play.Play, Start.Start, Text.{last_report, lines_of_step, some_line}}
+use Rattle.device_trace.specs.{Trace.Play, Start.Start, Text.{last_report, lines_of_step, some_line}}
 use Rattle.report_verifier.specs.Judge.{Judge}
 use Rattle.device_play.specs.{Cuts.StopsOnlyAt, Watching.HasSeen, declared.put_fault.PutFault.PutFault}
 use Rattle.device_play.proofs.Cuts.{stops-later}

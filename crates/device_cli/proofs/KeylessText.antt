@@ -7,7 +7,7 @@ use Rattle.device_types.specs.{Address.{Bytes, Contents}, Bounds.are_valid, Map.
 use Rattle.device_types.proofs.ValidRange.{are_valid-ranges}
 use Rattle.part_definitions.specs.{Memory.is_image_place, Metadata.bounds_in, Region.{bounded_bytes, bytes_between, metadata_bytes, output_bytes, rest_bytes}}
 use Rattle.hex_loader.specs.HexText.{hex_text}
-use Rattle.device_trace.specs.{Blank.SameOutside, Logs.Logs, Play.Play, Start.Start, Text.{end_line_after, last_report, lines_of, play_text, report_in, lines_of_step}, Trace.{byte_after, logs_after, released_words}}
+use Rattle.device_trace.specs.{Blank.SameOutside, Logs.Logs, Trace.{Play, byte_after, logs_after, released_words}, Start.Start, Text.{end_line_after, last_report, lines_of, play_text, report_in, lines_of_step}}
 use Rattle.key_isolation.specs.Keyless.{keyless}
 use Rattle.key_isolation.proofs.{Bytes.same_if, Hiding.open_start, Induction.{play_hides, releases_before}, Numbers.bounds_in-outside, OpenRecords.image_place-open, TextBlank.{end_line_after-hide, lines_of-hide, play_text-hide, ram_bytes, report_where-hide, valid_bytes}, TwoKeys.byte-hide}
 use Rattle.report_verifier.specs.{Comparison.{expected_bytes, expected_key, own_bytes}, Judge.{Judge, verdict_at}, Policy.expect_at, declared.{verdict.Verdict.Verdict, expect.Expect.Expect}}

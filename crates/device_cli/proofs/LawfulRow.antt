@@ -15,7 +15,7 @@ use Rattle.mac_coverage.specs.Coverage.{Gives32Bytes, IsDeviceKey, IsOfBytes}
 use Rattle.report_verifier.specs.{Policy.PolicyFields, PolicyGrammar.policy_of, Validity.are_valid_for, Judge.{Judge, judge_with}}
 use Rattle.report_verifier.proofs.PolicyBounds.{policy_of-valid}
 use Rattle.input_files.specs.{Row.{FileKind, RowOf, Ends, Reads, go_on, read_file, file_value}, Reading.{Files, Reaches}, FileKind.{image_kind, key_kind, policy_kind, script_kind}}
-use Rattle.device_cli.specs.{Row.{Always, DevicePlay, start_in}, Load.{load_key, load_image}, FileKind.reports_kind, LawfulPlay.{IsLawful, IsLawfulRow, IsPutLawfully}, Play.{PlayOutcome, play_with, steps_of, steps_row}, Acceptance.EachAcceptHasGrounds, Round.{RoundsHaveGrounds, round_row}, Verify.verify_row, Work.{load_play, work_row}}
+use Rattle.device_cli.specs.{Row.{Always, DevicePlay, start_in}, Load.{load_key, load_image}, FileKind.reports_kind, Answer.{IsLawful, IsLawfulRow, IsPutLawfully}, Play.{PlayOutcome, play_with, steps_of, steps_row}, Acceptance.EachAcceptHasGrounds, Round.{RoundsHaveGrounds, round_row}, Verify.verify_row, Work.{load_play, work_row}}
 use Rattle.device_cli.proofs.Grounds.{each_accept-has_grounds}
 use Rattle.device_play.proofs.PlayLaws.{keeps_key_hidden, obeys_laws}
 

@@ -5,7 +5,7 @@ use Rattle.std.specs.List.{concat}
 use Rattle.std.proofs.lemmas.List.{map-append}
 use Rattle.std.proofs.lemmas.List.Folds.{concat-append}
 use Rattle.device_types.specs.Address.{Bytes}
-use Rattle.device_trace.specs.{Play.Play, Start.Start, Text.{lines_of, lines_of_step}}
+use Rattle.device_trace.specs.{Trace.Play, Start.Start, Text.{lines_of, lines_of_step}}
 use Rattle.report_verifier.specs.Judge.{Judge}
 use Rattle.device_cli.specs.RoundText.{Piece, round_pieces}
 

@@ -6,7 +6,7 @@ use Rattle.std.specs.Option.{is_none}
 use Rattle.std.proofs.lemmas.Bool.{cases_eq, cases_lt}
 use Rattle.std.proofs.lemmas.List.Sums.{prefix_len-le-length, prefix_len_passes, prefix_len_stops}
 use Rattle.std.proofs.lemmas.Option.{slice_get-get_or, slice_get_cases, slice_get_past, slice_get_within}
-use Rattle.outside_edge.specs.{Count.Rose, Sink.{Takes, TakesPrefix}}
+use Rattle.outside_edge.specs.{Calls.Rose, Sink.{Takes, TakesPrefix}}
 use Rattle.outside_edge.proofs.SinkLemmas.{prefix_after, prefix_of_more, takes_both}
 use Rattle.report_verifier.specs.{declared.{asked.Asked.Asked, verdict.Verdict.{Verdict, TheVariants.Accept}, expect.Expect.Expect}, Policy.{PolicyFields, expect_at, expectation}}
 use Rattle.device_play.specs.{declared.put_fault.PutFault.{PutFault, TheVariants.{Write, Memory}}}

@@ -6,9 +6,9 @@ use Rattle.text_scan.specs.Decimal.{decimal_of}
 use Rattle.input_files.specs.{FileKind.{image_kind, key_kind, policy_kind, script_kind}, Reading.Files, declared.status.Status.{Status, TheVariants.Memory}}
 use Rattle.trace_files.specs.TraceText.{trace_text}
 use Rattle.device_types.specs.Address.{Bytes}
-use Rattle.device_trace.specs.{Play.Play, Start.Start, Text.play_text}
+use Rattle.device_trace.specs.{Trace.Play, Start.Start, Text.play_text}
 use Rattle.device_play.specs.Limit.{most_steps}
-use Rattle.device_cli.specs.{Asm.asm_row_of, Audit.audit_row_of, Command.{is_round, row_named, row_of}, Dump.dump_text, FileKind.{reports_kind, source_kind, trace_kind}, Limit.most_seed, List.list_row_of, Play.{steps_row, steps_row_of, text_outcome}, Request.{request_of, request_row_of, row_with}, Round.round_row_of, Row.{Always, Outcome, Row}, Run.IsRun, Unanswered.behind_all, Verify.verify_row_with, Wave.wave_text, Work.{work_row, work_row_of}}
+use Rattle.device_cli.specs.{Command.{asm_row_of, is_round, row_named, row_of, audit_row_of, list_row_of, wave_text, dump_text}, FileKind.{reports_kind, source_kind, trace_kind, most_seed}, Play.{steps_row, steps_row_of, text_outcome}, Request.{request_of, request_row_of, row_with}, Round.round_row_of, Row.{Always, Outcome, Row}, Answer.IsRun, Unanswered.behind_all, Verify.verify_row_with, Work.{work_row, work_row_of}}
 use Rattle.device_cli.proofs.LawfulRow.{reached-always, read-always}
 
 -- there is no text at which the putting of this may stop

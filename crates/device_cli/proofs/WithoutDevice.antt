@@ -3,7 +3,7 @@ use Rattle.std.proofs.Common.{◌≡◌, Some, Result, Ok, Err}
 use Rattle.std.specs.Prelude.{IfErr}
 use Rattle.std.specs.declared.alloc.AllocError.{AllocError}
 use Rattle.device_types.specs.Address.{Bytes, Contents}
-use Rattle.device_cli.specs.{Power.IsWithoutDevice, Row.{DevicePlay, Outcome}}
+use Rattle.device_cli.specs.Row.{IsWithoutDevice, DevicePlay, Outcome}
 
 -- it is the one that a text is put of
 pub without-device : {V : Type 0} (is_refused : Bytes → Contents → Type 0) (outcome : Outcome)

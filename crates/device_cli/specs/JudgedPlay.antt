@@ -1,8 +1,8 @@
 -- What a round says of a play.
-use Rattle.device_trace.specs.{Play.Play, Start.Start}
+use Rattle.device_trace.specs.{Trace.Play, Start.Start}
 use Rattle.report_verifier.specs.Judge.{Judge}
 use Rattle.device_play.specs.{Account.Account, Accounts.end_line_of}
-use Rattle.device_cli.specs.{declared.verdict.tally.Tally.Tally, RoundText.{piece_of_step, piece_text, reports_in, round_cuts, round_lines}, Tally.Counts, Verdicts.verdicts}
+use Rattle.device_cli.specs.{declared.verdict.tally.Tally.Tally, RoundText.{piece_of_step, piece_text, reports_in, round_cuts, round_lines}, Verdicts.{Counts, verdicts}}
 
 -- the tally of the verdicts on the reports of a play
 abbrev pub CountsVerdicts : Judge → Start → Play → Tally → Type 0

@@ -1,10 +1,10 @@
 -- What a round and a dump put of a play is no secret.
 use Rattle.std.specs.Prelude.{◌≡◌, Bool, List}
-use Rattle.word_arith.specs.Word16.{Word16}
-use Rattle.device_trace.specs.{Play.Play, Start.Start}
+use Rattle.word_arith.specs.Number.{Word16}
+use Rattle.device_trace.specs.{Trace.Play, Start.Start}
 use Rattle.key_isolation.specs.Keyless.{keyless}
 use Rattle.report_verifier.specs.Judge.{Judge}
-use Rattle.device_cli.specs.{Dump.dump_text, RoundText.{round_text, unanswered_in}}
+use Rattle.device_cli.specs.{Command.dump_text, RoundText.{round_text, unanswered_in}}
 
 -- both texts are those that the play has without its key, and so is the request that is not
 -- answered; a verifier has its own

@@ -7,7 +7,7 @@ use Rattle.part_definitions.specs.Request.{request_token}
 use Rattle.report_text.specs.RequestLine.{request_line}
 use Rattle.report_verifier.specs.Expectation.{count_bytes}
 use Rattle.input_files.specs.{FileKind.key_kind, Row.read_file}
-use Rattle.device_cli.specs.{Limit.most_count, Row.{Row, plain, put}}
+use Rattle.device_cli.specs.{FileKind.most_count, Row.{Row, plain, put}}
 
 -- the token is that of the device's key
 abbrev pub request_text : List ℕ → ℕ → List ℕ → List ℕ

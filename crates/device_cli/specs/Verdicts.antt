@@ -1,8 +1,9 @@
 -- The verdicts on reports in their order.
-use Rattle.std.specs.Prelude.{◌+◌, ◌++◌, ◌&&◌, ℕ, Bool, true, false, List, [], ◌∷◌}
+use Rattle.std.specs.{Prelude.{◌+◌, ◌++◌, ◌&&◌, ℕ, Bool, true, false, List, [], ◌∷◌, ◌≡◌, ◌==◌, length, if◌then◌else◌}, List.prefix_len}
 use Rattle.device_types.specs.Report.{ReportFields}
 use Rattle.report_text.specs.VerdictLine.{verdict_line}
 use Rattle.report_verifier.specs.{declared.verdict.Verdict.{Verdict, TheVariants.Accept}, Judge.{Judge, verdict_at}}
+use Rattle.device_cli.specs.declared.verdict.tally.Tally.{Tally}
 
 -- of which the first is expected to answer this request, counted from 0
 abbrev pub verdicts_from : Judge → ℕ → List ReportFields → List Verdict
@@ -27,3 +28,21 @@ is_accept decision = false
 abbrev pub all_accept : List Verdict → Bool
 all_accept [] = true
 all_accept (decision ∷ decisions) = is_accept decision && all_accept decisions
+
+-- A tally of verdicts.
+
+-- how many verdicts there are, and how many of them stand before the first that is not `accept`
+pub record Counts (decisions : List Verdict) (tally : Tally) : Type 0 where
+  pub verdicts : tally.verdicts ≡ length decisions
+  pub leading_accepts : tally.leading_accepts ≡ prefix_len is_accept decisions
+
+-- with one more
+abbrev pub tally_with : Tally → Verdict → Tally
+tally_with tally decision =
+    record {
+      verdicts = tally.verdicts + 1;
+      leading_accepts =
+          if (tally.leading_accepts == tally.verdicts) && is_accept decision
+          then tally.leading_accepts + 1
+          else tally.leading_accepts;
+    }

@@ -1,7 +1,7 @@
 -- Calm steps in a row.
 use borrow.Author.Tests.{not-true}
 use Rattle.std.proofs.Common.{◌≡◌, ◌∙◌, ◌&&◌, ◌∷◌, ℕ, Bool, true, false, not, Some, None, refl, sym, ap}
-use Rattle.device_types.specs.{declared.{bus_record.BusRecord.BusRecord, kind.Kind.{Kind, TheVariants.{Boot, Cpu, Idle, Irq, Rom}}, region.Region.Region, signals.Signals.Signals}, Bounds.executable_region, ExecFlag.last_pc, Kind.is_cpu, Map.metadata_region, SeenRecord.SeenRecord, TraceFlag.Flag}
+use Rattle.device_types.specs.{declared.{bus_record.BusRecord.BusRecord, kind.Kind.{Kind, TheVariants.{Boot, Cpu, Idle, Irq, Rom}}, region.Region.Region, signals.Signals.Signals}, Bounds.executable_region, ExecFlag.{last_pc, SeenRecord}, Kind.is_cpu, Map.metadata_region, TraceFlag.Flag}
 use Rattle.part_definitions.specs.{CpuRegister.Registers, Dma.dma_access, FirstRule.breaks_i1, Memory.ShownFlags}
 use Rattle.device_trace.specs.{Logs.{Logs, flags_shown, logged_bounds, with_record}, Peripherals.Peripherals, Progress.last_registers, Signals.{signals_at, signals_of, value_read}, Start.Start, Step.{dma_value_read, record_of}}
 use Rattle.trace_facts.proofs.BoundsStay.{logged_bounds-stay}

@@ -1,7 +1,7 @@
 -- What memory shows of the flags after a step.
 use Rattle.std.proofs.Common.{◌≡◌, ◌∙◌, Bool, true, false, ◌∷◌, map, if◌then◌else◌, refl, sym, ap}
 use mathlib.Core.Bool.{beq}
-use Rattle.device_types.specs.{TraceFlag.Flag, SeenRecord.{SeenRecord, SeenHistory}}
+use Rattle.device_types.specs.{TraceFlag.Flag, ExecFlag.{SeenRecord, SeenHistory}}
 use Rattle.device_trace.specs.{Blank.blank_seen, Logs.{aux_shown, flags_shown, goes_on_in_call, records_until_call}, Start.Start}
 use Rattle.device_core.specs.FlagsKept.{LeavesFlags}
 

@@ -5,9 +5,9 @@ use Rattle.std.proofs.lemmas.Bool.Decides.{nat_tests}
 use Rattle.device_types.specs.{declared.kind.Kind.{Kind, TheVariants.{Cpu, Idle, Irq}}, Kind.is_irq}
 use Rattle.msp_decode.specs.Head.{head_of}
 use Rattle.part_definitions.specs.{CpuRegister.Registers, CpuState.{CpuState, Boundary, Executing, Entering, completion_or, cpu_after, is_at_boundary}, NextAccess.{Next, Asks, Completes, next_access, entry_access}}
-use Rattle.msp_exec.specs.Level.{level_begun, level_entered}
-use Rattle.word_arith.specs.Word16.{Word16}
-use Rattle.device_trace.specs.{Level.{level_after, level_from_boundary}, Logs.{Logs, vector_taken, with_record}, Progress.{Progress, Held, Runs, InCall, after_return, fetches_opcode, kind_of, progress_within}, Start.Start}
+use Rattle.msp_exec.specs.Course.{level_begun, level_entered}
+use Rattle.word_arith.specs.Number.{Word16}
+use Rattle.device_trace.specs.{Progress.{level_after, level_from_boundary, Progress, Held, Runs, InCall, after_return, fetches_opcode, kind_of, progress_within}, Logs.{Logs, vector_taken, with_record}, Start.Start}
 use Rattle.device_core.specs.{Bus.logs_after_step, Machine.{cpu_of, level_within}}
 use Rattle.device_core.proofs.Turns.{boundary_kind-Irq}
 

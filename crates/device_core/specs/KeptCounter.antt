@@ -2,7 +2,7 @@
 use Rattle.std.specs.Prelude.{◌≡◌, ◌<◌, ◌≤◌, ◌++◌, ◌∷◌, ℕ, List, IsFalse}
 use Rattle.device_types.specs.{declared.event.Event.Event, Address.Bytes}
 use Rattle.part_definitions.specs.Hmac.{Digest}
-use Rattle.device_trace.specs.{Start.Start, Trace.trace, Play.Play}
+use Rattle.device_trace.specs.{Start.Start, Trace.{trace, Play}}
 use Rattle.request_freshness.specs.Freshness.{Attests, BeganAfter, IsRightlyRequested, ends_between_words, kept_counter}
 
 -- after a play, of a device with this key

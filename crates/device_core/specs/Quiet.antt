@@ -3,7 +3,7 @@ use Rattle.std.specs.Prelude.{◌≡◌, ◌-◌, ◌⊎◌, ℕ, Bool, true, []
 use Rattle.device_types.specs.{declared.{access.Access.{Access, TheVariants.Fetch}, bus_record.BusRecord.BusRecord, kind.Kind.TheVariants.Idle}, Address.even, TraceFlag.Flag}
 use Rattle.part_definitions.specs.{CpuRegister.{Registers, pc_of}, CpuState.Boundary}
 use Rattle.hmac_core.specs.Hash.{Hash}
-use Rattle.device_trace.specs.{Logs.{Logs, flags_of}, Play.Play, Progress.Runs, Signals.step_kind, Start.Start, Step.{next_record, record_of}, Trace.logs_after}
+use Rattle.device_trace.specs.{Logs.{Logs, flags_of}, Trace.{Play, logs_after}, Progress.Runs, Signals.step_kind, Start.Start, Step.{next_record, record_of}}
 use Rattle.device_core.specs.{Machine.{MachineStandsFor, PlaysAt}, Silence.{OfEach, is_silent}, declared.{last_step.LastStep.LastStep, machine.Machine.Machine, stage.Stage.Stage}}
 
 -- whether a row goes over a step, by the accesses of processor or ROM and of the DMA

@@ -1,10 +1,10 @@
 -- Steps of sleep in a row.
 use Rattle.std.specs.Prelude.{◌≡◌, ℕ, zero, suc, false, map, Some, None}
-use Rattle.device_types.specs.{declared.{bus_record.BusRecord.BusRecord, kind.Kind.TheVariants.Idle, signals.Signals.Signals, bounds.Bounds.Bounds}, Address.Address, ExecFlag.last_pc, SeenRecord.SeenHistory, TraceFlag.{Flag, IsRecordOf}}
+use Rattle.device_types.specs.{declared.{bus_record.BusRecord.BusRecord, kind.Kind.TheVariants.Idle, signals.Signals.Signals, bounds.Bounds.Bounds}, Address.Address, ExecFlag.{last_pc, SeenHistory}, TraceFlag.{Flag, IsRecordOf}}
 use Rattle.part_definitions.specs.{CpuRegister.pc_of, Dma.dma_access, FirstRule.first_rule}
-use Rattle.device_peripherals.specs.Ticks.{with_ticks}
+use Rattle.device_peripherals.specs.Timer.{with_ticks}
 use Rattle.device_trace.specs.{Blank.blank_seen, Logs.{Logs, aux_of, logged_bounds}, Peripherals.Peripherals, Progress.last_registers, Signals.step_kind, Start.Start, Step.record_of}
-use Rattle.device_core.specs.{Bus.{LastStandsFor, logs_after_step}, FlagsKept.LeavesFlags, Machine.{DecisionStandsFor, IsAtBoundary}, Monitors.MonitorsStandFor, declared.{bus.Bus.Bus, monitors.Monitors.Monitors}}
+use Rattle.device_core.specs.{Bus.{LastStandsFor, logs_after_step}, FlagsKept.{LeavesFlags, MonitorsStandFor}, Machine.{DecisionStandsFor, IsAtBoundary}, declared.{bus.Bus.Bus, monitors.Monitors.Monitors}}
 
 -- what a step of sleep at this `pc` is about to do: nothing
 abbrev pub idle_signals : Address → Signals

@@ -1,5 +1,5 @@
 ghost use Rattle.std.specs.Prelude.{◌≡◌, ◌<◌, ◌≤◌, ◌∷◌, [], ℕ, true, false, List, Option, IfOk, IfSome, IsSome, None, Some, is_none, map, if◌then◌else◌};
-ghost use Rattle.device_types.specs.{declared.event.Event.Event, Bounds.executable_region, TraceFlag.IsRecordOf, SeenRecord.SeenHistory, ExecFlag.{exec, last_pc}};
+ghost use Rattle.device_types.specs.{declared.event.Event.Event, Bounds.executable_region, TraceFlag.IsRecordOf, ExecFlag.{SeenHistory, exec, last_pc}};
 ghost use Rattle.part_definitions.specs.{Dma.dma_access, FirstRule.{breaks_i1, first_rule}, Memory.{PowerOn, ShownFlags, MemoryWrite}, Part.Takes, CpuRegister.Registers};
 ghost use Rattle.mem_map.specs.{Memory.MemoryStandsFor, Image.power_on_of};
 ghost use Rattle.device_trace.specs.{Start.Start, Blank.blank_seen, Logs.{Logs, aux_of, power_on_logs, goes_on_in_call, logged_bounds, memory_after, with_events, with_record}, Signals.{signals_of, word_fetched, value_read}, Step.{is_reset, asks_reset, record_from}};
@@ -107,7 +107,7 @@ fn idle_signals(pc: u16) -> Signals
 
 impl<G: TraceFlag> Bus<G> {
     ghost use Rattle.device_trace.specs.Logs.{flags_shown};
-    ghost use Rattle.device_core.specs.{Bus.{BusStandsFor, KeepsSignals, AnswersTurn, MakesTurn, Performs, PerformsFrom, record_performed, seen_in}, Calm.{IsCalmRegion, ReadsCalmly}, FlagsKept.{LeavesFlags, KeepsFlags, has_flag}, Monitors.MonitorsStandFor, Sleep.{Rests, Sleeps}};
+    ghost use Rattle.device_core.specs.{Bus.{BusStandsFor, KeepsSignals, AnswersTurn, MakesTurn, Performs, PerformsFrom, record_performed, seen_in}, Calm.{IsCalmRegion, ReadsCalmly}, FlagsKept.{LeavesFlags, KeepsFlags, has_flag, MonitorsStandFor}, Sleep.{Rests, Sleeps}};
 
     /// The bus at power-on. The flag has seen no record.
     #[tactic(auto, unfolding(device_types::specs::ExecFlag::exec))]

@@ -1,6 +1,6 @@
 ghost use Rattle.std.specs.Prelude.{◌≡◌, None};
 ghost use Rattle.device_trace.specs.Text.{byte_sent_in};
-ghost use Rattle.device_core.specs.StepLine.{byte_in_line, rule_in_line, report_in_line, denied_in_line};
+ghost use Rattle.device_core.specs.Silence.{byte_in_line, rule_in_line, report_in_line, denied_in_line};
 
 use crate::record::byte_sent_in;
 use device_types::{BusRecord, ReportView, Rule};

@@ -8,7 +8,7 @@ use Rattle.outside_edge.specs.declared.sink.Sink as sink
 use Rattle.debug_link.specs.{Conversation.{Answer, HaveCome, count_of}, Packet.packet_of, Writing.{Answers, PacketSink}, declared.{answer_fault.AnswerFault.AnswerFault, connection.Connection.{Connection, TheVariants.{Closed, Open}}}}
 use Rattle.debug_session.specs.{Command.command_of, declared.request.Request.{Request, TheVariants.Until}, Place.{Run, view_of}, Session.{Session, after_request, answer_of, closes, reply, says, with_stops}, Stops.Stops}
 use Rattle.debug_link.proofs.{Bodies.put_none, Interrupts.none-came}
-use Rattle.debug_walk.specs.{PlayedRun.played_run, Walk.OfWalk, declared.walk.Walk.Walk}
+use Rattle.debug_walk.specs.{Copies.played_run, Walk.OfWalk, declared.walk.Walk.Walk}
 use Rattle.device_debug.specs.{Going.StandsAt, Session.{DebuggerStandsFor, Gives, MayGive, RunSession, StandsInRun, in_run, run_at, run_reply}, declared.{debugger.Debugger.Debugger, run_debugger.RunDebugger.RunDebugger}}
 use Rattle.device_debug.proofs.Answered.{all-answered, half-answered, half-put, none-answered, one-put}
 

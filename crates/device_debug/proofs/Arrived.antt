@@ -5,7 +5,7 @@ use Rattle.debug_session.specs.{Request.most_steps, Cause.Step, Going.{Standing,
 use Rattle.debug_link.specs.Conversation.{HaveCome, count_of}
 use Rattle.debug_session.proofs.{Scans.last-none, Views.view-at}
 use Rattle.debug_walk.specs.{Copies.{IsAt, IsBegun}, Walk.place_of, declared.walk.Walk.Walk}
-use Rattle.device_debug.specs.{Back.IsLastBehind, Going.{HasArrived, StandsAt}}
+use Rattle.device_debug.specs.{Ahead.IsLastBehind, Going.{HasArrived, StandsAt}}
 use Rattle.device_debug.proofs.{Ahead.at-boundary, Back.{NoneBehind, cause_back, found-last, found-none}, Interrupted.interrupted-here}
 
 module _ {D : Type 0} (hash : Hash D) (run : Run) where

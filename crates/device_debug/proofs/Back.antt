@@ -9,7 +9,7 @@ use Rattle.debug_session.specs.{Request.most_steps, declared.{command.Way.TheVar
 use Rattle.debug_session.proofs.{Scans.{last-at, last-none}, Stretches.ahead-behind, Views.view-at}
 use Rattle.debug_walk.specs.{Passing.{IsSilent, Sleeps}, Walk.IsStretch, declared.stretch.Stretch.Stretch}
 use Rattle.debug_walk.proofs.StretchSteps.{told-refused}
-use Rattle.device_debug.specs.{Back.{IsLastBehind, stop_with_place, seek_back}, Seek.{cause_before, steps_by}}
+use Rattle.device_debug.specs.{Ahead.{IsLastBehind, stop_with_place, seek_back}, Going.{cause_before, steps_by}}
 
 -- the last place with a cause, of those behind a place and before another one
 module _ (cause : ℕ → Option Stop) (begin : ℕ) where

@@ -13,7 +13,7 @@ use Rattle.debug_link.proofs.Bodies.{put_both, put_none, puts_behind, puts_less}
 use Rattle.debug_session.proofs.{Scans.first-past, Views.{next-at, view-at}}
 use Rattle.debug_walk.specs.{Copies.IsAt, Passing.{ArePassed, AreSilent}, Walk.{TellsCause, Walks, place_of}, declared.walk.Walk.Walk}
 use Rattle.debug_walk.proofs.Views.{some-same}
-use Rattle.device_debug.specs.{Ahead.{both_of, last_boundary, refused_at, seek_ahead}, Going.{GoesOn, StandsAt, StopsBefore}, GrownText.GrownText, Telling.{TellsStep, bodies_of}}
+use Rattle.device_debug.specs.{Ahead.{both_of, last_boundary, refused_at, seek_ahead}, Going.{GoesOn, StandsAt, StopsBefore}, Telling.{GrownText, TellsStep, bodies_of}}
 use Rattle.device_debug.proofs.{Ahead.{IsClear, TellsAhead, at-boundary, cause_at, cause_by, none-at, stops-before-refusal, stops-here, stops-nowhere, tells-ahead, told_at, up-to}, Arrived.arrives-there, Back.{idle-over, plain-none}, Interrupted.interrupted-at, Kept.exact-tells, RefusalText.puts-none, Told.{IsPut, IsTold, put-here, put-until, told-both, told-first, told-on, told-step}}
 
 both-parts : (last : Option ℕ) (told : Option Rule) (at : ℕ) (rule : Rule)

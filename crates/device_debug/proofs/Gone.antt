@@ -6,8 +6,8 @@ use Rattle.outside_edge.specs.declared.sink.Sink as sink
 use Rattle.debug_link.specs.{Console.console, Conversation.{HaveCome, count_of}, Writing.{Answers, PacketSink, PutsPackets}, declared.{answer_fault.AnswerFault.AnswerFault, connection.Connection.Connection}}
 use Rattle.debug_session.specs.{Request.most_steps, declared.{command.{Going.Going, Way.{Way, TheVariants.{Ahead, Back}}}, request.Request.{Request, TheVariants.Until}, stop.Stop.Stop}, Cause.{Step, cause}, Going.{Standing, first_stop, interrupted, last_stop, step_of, where_to}, Monitor.request_text, Place.{Run, sight_at, view_of}, Session.{Session, after_request, lines_to, answer_to_request, says, stands_at}, StopReply.stop_reply, Stops.Stops}
 use Rattle.debug_session.proofs.Views.{view-at}
-use Rattle.debug_walk.specs.{Copies.TrackStandsFor, PlayedRun.played_run, Walk.{OfWalk, Walks, place_of}, declared.{track.Track.Track, walk.Walk.Walk}}
-use Rattle.device_debug.specs.{Ahead.seek_ahead, Back.seek_back, Going.{GoesOn, HasArrived, StandsAt}, Session.{DebuggerStandsFor, Gives, MayGive, run_at, view_in}, declared.debugger.Debugger.Debugger}
+use Rattle.debug_walk.specs.{Copies.{TrackStandsFor, played_run}, Walk.{OfWalk, Walks, place_of}, declared.{track.Track.Track, walk.Walk.Walk}}
+use Rattle.device_debug.specs.{Ahead.{seek_ahead, seek_back}, Going.{GoesOn, HasArrived, StandsAt}, Session.{DebuggerStandsFor, Gives, MayGive, run_at, view_in}, declared.debugger.Debugger.Debugger}
 use Rattle.device_debug.proofs.{Answered.{answered-behind, failed-before}, Answering.halted-here}
 
 -- no request changes the place

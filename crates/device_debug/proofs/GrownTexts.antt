@@ -3,7 +3,7 @@ use Rattle.std.proofs.Common.{◌≡◌, true, List, [], ℕ, Result, Ok, Err, s
 use Rattle.std.specs.Prelude.{is_ok}
 use Rattle.std.proofs.lemmas.Bool.{false≢true}
 use Rattle.outside_edge.specs.Sink.{Puts}
-use Rattle.device_debug.specs.GrownText.{GrownText}
+use Rattle.device_debug.specs.Telling.{GrownText}
 
 -- a text into which another one was put, before which there was none
 pub grown-all : {V E : Type 0} (old new : GrownText) (text : List ℕ) (result : Result V E)

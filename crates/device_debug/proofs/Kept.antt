@@ -6,7 +6,7 @@ use Rattle.part_definitions.specs.CpuRegister.{pc_of}
 use Rattle.debug_session.specs.{declared.command.Way.TheVariants.Ahead, Cause.{Step, behind, cause_here, hit_on, hits, is_broken_at, is_due, is_plain, is_within, steps_over, stop_of}, Place.{Run, sight_at, view_of}, Sight.Sight, Stops.Stops}
 use Rattle.debug_session.proofs.Stretches.{HasBegin, has-begin}
 use Rattle.debug_walk.specs.{Walk.{IsStretch, TellsCause}, declared.stretch.Stretch.Stretch}
-use Rattle.device_debug.specs.Seek.{steps_by}
+use Rattle.device_debug.specs.Going.{steps_by}
 
 begins-before : (run : Run) (place begin : ℕ)
     → begin ≡ place - length (behind (view_of run) place)

@@ -8,7 +8,7 @@ use Rattle.part_definitions.specs.CpuRegister.{pc_of}
 use Rattle.debug_session.specs.{Request.most_steps, Stops.Stops, declared.stop.Stop.Stop, Cause.{Step, behind, is_plain}, Place.{Run, sight_at, view_of}}
 use Rattle.debug_session.proofs.Views.{view-at}
 use Rattle.debug_walk.specs.{Copies.{IsBefore, IsBegun}, Passing.{ArePassed, AreSilent, Sleeps}, Walk.{IsStretch, Walks, place_of}, declared.walk.Walk.Walk}
-use Rattle.device_debug.specs.{Back.{IsLastBehind, stop_with_place}, Seek.cause_before}
+use Rattle.device_debug.specs.{Ahead.{IsLastBehind, stop_with_place}, Going.cause_before}
 use Rattle.device_debug.proofs.{Back.{Covers, asleep-none, cause-behind, cause_back, covers-all, covers-here, covers-none, covers-on, early-or, no-boundary, plain-none, plain_at}}
 
 either-early : (last : ℕ) (past : Bool) (one other : Option (ℕ × Stop))

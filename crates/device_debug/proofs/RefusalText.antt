@@ -6,7 +6,7 @@ use Rattle.std.proofs.lemmas.List.{append-nil}
 use Rattle.outside_edge.specs.Sink.{Puts}
 use Rattle.outside_edge.specs.declared.sink.Sink as sink
 use Rattle.debug_link.specs.Writing.{PacketSink, PutsPackets}
-use Rattle.device_debug.specs.GrownText.{GrownText}
+use Rattle.device_debug.specs.Telling.{GrownText}
 
 -- the text behind a call that put more
 pub has-grown : {V E : Type 0} (old new : GrownText) (text : List ℕ) (given : Result V E)

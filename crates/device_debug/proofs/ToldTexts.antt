@@ -13,7 +13,7 @@ use Rattle.debug_link.specs.{Console.console, Packet.packets_of, Writing.{HasPut
 use Rattle.debug_link.proofs.Bodies.{put_both, put_none, puts_behind, puts_failed, puts_less}
 use Rattle.debug_session.specs.Place.{Run, sight_at}
 use Rattle.debug_walk.specs.{Walk.{AuxFlag, Walks, place_of, second_flag}, declared.walk.Walk.Walk}
-use Rattle.device_debug.specs.{GrownText.GrownText, Telling.{TellsStep, bodies_of, step_bodies}}
+use Rattle.device_debug.specs.Telling.{GrownText, TellsStep, bodies_of, step_bodies}
 
 -- the packets of texts, one list behind another
 pub bodies-both : (xs ys : List GrownText) → bodies_of (xs ++ ys) ≡ bodies_of xs ++ bodies_of ys

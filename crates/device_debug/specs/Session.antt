@@ -4,7 +4,7 @@ use Rattle.hmac_core.specs.Hash.{Hash}
 use Rattle.outside_edge.specs.declared.sink.Sink as sink
 use Rattle.debug_link.specs.{Conversation.{Answer, HaveCome, count_of}, Writing.{Answers, PacketSink}, declared.{answer_fault.AnswerFault.AnswerFault, connection.Connection.Connection}}
 use Rattle.debug_session.specs.{Place.{Run, view_of}, Session.{Session, reply}, Sight.View}
-use Rattle.debug_walk.specs.{Copies.TrackStandsFor, PlayedRun.played_run, declared.walk.Walk.Walk}
+use Rattle.debug_walk.specs.{Copies.{TrackStandsFor, played_run}, declared.walk.Walk.Walk}
 use Rattle.device_debug.specs.{Going.StandsAt, declared.{debugger.Debugger.Debugger, run_debugger.RunDebugger.RunDebugger}}
 
 -- the run that it goes through

@@ -1,10 +1,17 @@
 -- The lines of steps that a debugger is told, and those that wait.
 use Rattle.std.specs.Prelude.{◌≡◌, ◌++◌, ℕ, suc, true, false, List, [], ◌∷◌, Result, OnErr, OnOk}
 use Rattle.outside_edge.specs.Sink.{TakesPrefix}
-use Rattle.outside_edge.specs.declared.sink.Sink as sink
 use Rattle.debug_link.specs.{Console.console, Packet.packets_of, Writing.{HasPut, PacketSink}}
-use Rattle.debug_session.specs.Place.{Run, sight_at, step_sight}
-use Rattle.device_debug.specs.GrownText.{GrownText}
+use Rattle.debug_session.specs.{Place.{Run, sight_at, step_sight}, Sight.StepSight}
+use Rattle.device_debug.specs.declared.step_text.StepText.{StepText, TheVariants.{Lines, Trace}}
+use Rattle.outside_edge.specs.declared.sink.Sink as sink
+
+-- A text that grows in memory.
+
+-- its bytes, and how often it had no room
+pub record GrownText : Type 0 where
+  pub bytes : List ℕ
+  pub faults : ℕ
 
 -- the packets of the lines of a step
 abbrev pub step_bodies : Run → ℕ → List (List ℕ)
@@ -28,3 +35,9 @@ pub record TellsStep {W V E : Type 0} (w : sink.Ghosts W) (old new : PacketSink 
   pub waits : OnOk result (later ≡ bodies_of waiting_new)
   pub none_waits : (sight_at run (suc step)).boundary ≡ true → later ≡ []
   pub none_put : (sight_at run (suc step)).boundary ≡ false → put ≡ []
+
+-- The texts of steps.
+
+abbrev pub text_in : StepText → StepSight → List ℕ
+text_in Lines step = step.lines
+text_in Trace step = step.trace_line

@@ -3,7 +3,7 @@ ghost use Rattle.std.specs.Option.{option_or};
 ghost use Rattle.debug_session.specs.{Request.most_steps, Cause.{behind, cause, is_due, is_plain}, Going.{interrupted, last_stop}, Place.{Run, sight_at, view_of}};
 ghost use Rattle.debug_link.specs.Conversation.{HaveCome, count_of};
 ghost use Rattle.debug_walk.specs.{Copies.{IsBefore, IsBegun, TrackStandsFor}, Passing.{ArePassed, AreSilent}, Walk.{IsStretch, OfWalk, Walks, place_of}};
-ghost use Rattle.device_debug.specs.{Going.{HasArrived, StandsAt}, Seek.{cause_before, step_in}, Back.{IsLastBehind, stop_with_place, seek_back}};
+ghost use Rattle.device_debug.specs.{Going.{HasArrived, StandsAt, cause_before, step_in}, Ahead.{IsLastBehind, stop_with_place, seek_back}};
 ghost use Rattle.part_definitions.specs.CpuRegister.{pc_of};
 
 use crate::interrupts::Interrupts;

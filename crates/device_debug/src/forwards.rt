@@ -2,8 +2,8 @@ ghost use Rattle.std.specs.Prelude.{◌≡◌, ◌<◌, ◌≤◌, ◌⊎◌, �
 ghost use Rattle.debug_session.specs.{Request.most_steps, Cause.{cause, refusal_or}, Going.{first_stop, interrupted}, Place.{Run, sight_at, view_of}};
 ghost use Rattle.debug_link.specs.{Console.console, Conversation.{HaveCome, count_of}, Writing.{CountsWriteFaults, PutsPackets}};
 ghost use Rattle.debug_walk.specs.{Copies.TrackStandsFor, Walk.{OfWalk, Walks, place_of}};
-ghost use Rattle.device_core.specs.{Device.HasStepped, StepLine.rule_in_line};
-ghost use Rattle.device_debug.specs.{Going.{GoesOn, StandsAt, StopsBefore}, Ahead.{last_boundary, place_past, refused_at, seek_ahead}, Seek.step_in};
+ghost use Rattle.device_core.specs.{Device.HasStepped, Silence.rule_in_line};
+ghost use Rattle.device_debug.specs.{Going.{GoesOn, StandsAt, StopsBefore, step_in}, Ahead.{last_boundary, place_past, refused_at, seek_ahead}};
 ghost use Rattle.printed_lines.specs.Line.{reset_line};
 
 use crate::grown_text::{GrownText, memory_result};

@@ -14,7 +14,7 @@ pub struct GrownText {
 }
 
 impl Model for GrownText {
-    ghost use Rattle.device_debug.specs.GrownText.{GrownText as Grown};
+    ghost use Rattle.device_debug.specs.Telling.{GrownText as Grown};
 
     ghost Value = { Grown };
 

@@ -1,8 +1,8 @@
 ghost use Rattle.std.specs.Prelude.{◌≡◌, ◌≤◌, ◌-◌, ◌++◌, IfErr, IfOk};
 ghost use Rattle.debug_session.specs.{Request.most_steps, declared.request.Request.TheVariants.Steps, Monitor.{flags_text, request_text, texts_from}, Place.{Run, sight_at, view_of}, Sight.View};
 ghost use Rattle.debug_link.specs.{Console.{AddsText, console}, Writing.{CountsWriteFaults, PutsPackets}, declared.answer_fault.AnswerFault.TheVariants.Memory};
-ghost use Rattle.debug_walk.specs.{Copies.TrackStandsFor, PlayedRun.played_run, Walk.{OfWalk, Walks, place_of}};
-ghost use Rattle.device_debug.specs.StepText.{text_in};
+ghost use Rattle.debug_walk.specs.{Copies.{TrackStandsFor, played_run}, Walk.{OfWalk, Walks, place_of}};
+ghost use Rattle.device_debug.specs.Telling.{text_in};
 
 use crate::grown_text::{GrownText, memory_result};
 use crate::step_text::StepText;

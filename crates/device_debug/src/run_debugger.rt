@@ -1,6 +1,6 @@
 ghost use Rattle.std.specs.Prelude.{◌≡◌, IfOk};
 ghost use Rattle.debug_session.specs.Session.{first_session};
-ghost use Rattle.debug_walk.specs.PlayedRun.{played_run};
+ghost use Rattle.debug_walk.specs.Copies.{played_run};
 ghost use Rattle.device_debug.specs.Session.{StandsInRun};
 
 use crate::debugger::Debugger;

@@ -1,7 +1,7 @@
 ghost use Rattle.std.specs.Prelude.{◌≡◌, [], is_some};
 ghost use Rattle.debug_session.specs.{declared.command.Way.TheVariants.Ahead, Cause.{behind, cause_here, stop_of}, Going.step_of, Place.{sight_at, view_of}};
 ghost use Rattle.debug_walk.specs.Walk.{OfWalk, TellsCause};
-ghost use Rattle.device_debug.specs.Seek.{cause_before, step_in, steps_by};
+ghost use Rattle.device_debug.specs.Going.{cause_before, step_in, steps_by};
 
 use debug_session::{Going, Hit, Stop, StopList};
 use debug_walk::{Stretch, Walk};

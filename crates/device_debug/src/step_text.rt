@@ -6,7 +6,7 @@ ghost use Rattle.device_core.specs.Device.{HasStepped, LiveStandsFor};
 ghost use Rattle.device_trace.specs.Trace.{play_of};
 ghost use Rattle.device_play.specs.Watching.{PlaysSome};
 ghost use Rattle.outside_edge.specs.Sink.{Puts};
-ghost use Rattle.device_debug.specs.{StepText.text_in, declared.step_text.StepText.TheVariants.Trace};
+ghost use Rattle.device_debug.specs.{Telling.text_in, declared.step_text.StepText.TheVariants.Trace};
 
 use crate::grown_text::{GrownText, memory_result};
 use debug_link::AnswerFault;

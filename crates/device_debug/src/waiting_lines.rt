@@ -22,7 +22,7 @@ pub struct WaitingLines {
 
 impl Model for WaitingLines {
     ghost use Rattle.std.specs.Prelude.{List};
-    ghost use Rattle.device_debug.specs.GrownText.{GrownText as Grown};
+    ghost use Rattle.device_debug.specs.Telling.{GrownText as Grown};
 
     ghost Value = { List Grown };
 

@@ -3,7 +3,7 @@ use Rattle.std.proofs.Common.{rules, ◌≡◌, [], ℕ, Bool, true, false, List
 use Rattle.outside_edge.specs.Shelf.{SureShelf}
 use Rattle.outside_edge.proofs.Counts.{never_rises}
 use Rattle.input_files.specs.{declared.status.Status.{Status, TheVariants.{Done, Rejected, ReadFault, WriteFault, Memory}}, Reading.{Files, first_refusal}}
-use Rattle.device_cli.specs.{Answer.{Answers, Follows, HasOutcome, PutsAll}, Row.Row, Run.IsRun}
+use Rattle.device_cli.specs.{Answer.{Answers, Follows, HasOutcome, PutsAll, IsRun}, Row.Row}
 use Rattle.device_library.specs.{Call.{IsAnswer, IsCall}, KeptText.KeptBytes, Shown.{IsTold, Shows, ShowsFirst}}
 
 abbrev kept_is : KeptBytes → List ℕ → Type 0

@@ -1,6 +1,6 @@
 ghost use Rattle.std.specs.Prelude.{◌≡◌, IfOk, map};
 ghost use Rattle.std.specs.Str.Lines.{lines};
-ghost use Rattle.input_files.specs.Argument.{texts};
+ghost use Rattle.input_files.specs.CommandLine.{texts};
 
 use std::alloc::{AllocError, Global};
 

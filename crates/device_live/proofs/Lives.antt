@@ -7,7 +7,7 @@ use Rattle.std.proofs.lemmas.List.{append-nil}
 use Rattle.device_types.specs.{Address.Bytes, declared.event.Event.Event}
 use Rattle.play_script.specs.{Grammar.{ScriptSoFar, timed_events, with_entry}, Script.{TimedEvent, events_of}}
 use Rattle.text_scan.specs.{Reader.◌>>=◌, Word.{is_passed_over, words_of}, declared.fault_kind.FaultKind.FaultKind}
-use Rattle.device_trace.specs.{Play.Play, Start.Start, Text.lines_of, Trace.play_of}
+use Rattle.device_trace.specs.{Trace.{Play, play_of}, Start.Start, Text.lines_of}
 use Rattle.source_server.specs.HeldLine.{short_line}
 use Rattle.device_live.specs.{Answer.{Answer, answer_of, or_refusal, silent_answer, tells}, Conversation.{answer_to, talk_of}, Laws.{IsCutAnywhere, TellsItsPlay}, Life.{Life, events_in, lines_since, play_lived, with_script, with_steps}, LiveLine.{LiveLine, Happens, Run, Registers, Memory, live_line_of}}
 use Rattle.device_live.proofs.ToldPlay.{events-behind, lines-on, same-play, since-between}

@@ -3,7 +3,7 @@ use Rattle.std.proofs.Common.{◌≡◌, ◌<◌, ◌++◌, ℕ, [], ◌∷◌, 
 use Rattle.device_types.specs.Address.{Bytes}
 use Rattle.hex.specs.Hex.{encode_lower}
 use Rattle.printed_lines.specs.Line.{word_digits}
-use Rattle.device_live.specs.StateLines.{memory_text}
+use Rattle.device_live.specs.Answer.{memory_text}
 
 abbrev pub memory_head : ℕ → Bytes
 memory_head place = (codes "memory" ++ 32 ∷ word_digits place) ++ codes " "

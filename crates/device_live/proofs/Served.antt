@@ -5,14 +5,14 @@ use Rattle.std.specs.declared.alloc.AllocError.{AllocError}
 use Rattle.std.proofs.lemmas.Bool.{cases_Bool}
 use Rattle.device_types.specs.{Address.Bytes, TraceFlag.Flag}
 use Rattle.hmac_core.specs.Hash.{Hash}
-use Rattle.outside_edge.specs.{Buffer.{Buffer, BufferStandsFor}, Count.Rose, Sink.{CountsFaults, Puts, Takes, TakesPrefix}, declared.sink.Failed.Failed}
+use Rattle.outside_edge.specs.{Buffer.{Buffer, BufferStandsFor}, Calls.Rose, Sink.{CountsFaults, Puts, Takes, TakesPrefix}, declared.sink.Failed.Failed}
 use Rattle.outside_edge.specs.declared.sink.Sink as sink
 use Rattle.outside_edge.specs.declared.source.Source as source
 use Rattle.outside_edge.proofs.{Counts.rose_since, SinkLemmas.{prefix_after, prefix_of_more, takes_both}}
 use Rattle.source_server.specs.{HeldLine.short_line, LineCut.{LineCut, all_lines, cut_of, no_lines, whole_lines, with_byte, with_bytes, with_last}, Lines.{promise_of, within}, Responder.{Moment, Promise}, Serving.{EndsSo, StopsSo}, Taken.{joined_pieces, most_input}, declared.{halt.Halt.{Halt, TheVariants.{Write, Own}}, lines.Lines.Lines, served.Served.Served}}
 use Rattle.source_server.specs.declared.served.Served.TheVariants as served
 use Rattle.device_trace.specs.Start.{Start}
-use Rattle.device_live.specs.{Answer.{or_refusal, standing_line}, Conversation.{answer_to, conversation, talk_of}, Faults.end_with, Life.{Life, at_power_on}, Living.LivingStandsFor, LineResponder.{AreFew, HasTold, LiveStart, StopsTold, live_promise}, Serving.{StopsLife, life_promise}, declared.living.Living.Living}
+use Rattle.device_live.specs.{Answer.{or_refusal, standing_line}, Conversation.{answer_to, conversation, talk_of, StopsLife, life_promise}, Faults.end_with, Life.{Life, at_power_on}, Living.LivingStandsFor, LineResponder.{AreFew, HasTold, LiveStart, StopsTold, live_promise}, declared.living.Living.Living}
 
 -- bytes have no more lines than bytes
 byte-lines : (cut : LineCut) (byte : ℕ)

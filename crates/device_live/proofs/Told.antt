@@ -5,10 +5,10 @@ use Rattle.std.proofs.Math.Seq.{take-length}
 use Rattle.std.specs.declared.alloc.AllocError.{AllocError}
 use Rattle.device_types.specs.{Address.Bytes, TraceFlag.Flag}
 use Rattle.hmac_core.specs.Hash.{Hash}
-use Rattle.outside_edge.specs.{Buffer.{Buffer, BufferStandsFor}, Count.Rose, Sink.{CountsFaults, Takes, TakesPrefix}, declared.sink.Failed.Failed}
+use Rattle.outside_edge.specs.{Buffer.{Buffer, BufferStandsFor}, Calls.Rose, Sink.{CountsFaults, Takes, TakesPrefix}, declared.sink.Failed.Failed}
 use Rattle.outside_edge.specs.declared.sink.Sink as sink
 use Rattle.outside_edge.proofs.{Counts.rose_since, SinkLemmas.{prefix_after, takes_both}}
-use Rattle.source_server.specs.{HeldLine.short_line, LineResponder.{Settles, Tells}, Responder.Moment, declared.halt.Halt.{Halt, TheVariants.{Write, Own}}}
+use Rattle.source_server.specs.{HeldLine.short_line, Lines.{Settles, Tells}, Responder.Moment, declared.halt.Halt.{Halt, TheVariants.{Write, Own}}}
 use Rattle.device_trace.specs.Start.{Start}
 use Rattle.device_live.specs.{Answer.{Answer, or_refusal}, Conversation.{Talk, answer_to, talk_of}, Faults.halt_of, Life.Life, Living.{AnswersNumbered, LivingStandsFor}, LineResponder.{AreFew, HasTold, LiveStart, StopsTold, buffer_sink, live_promise}, declared.living.Living.Living}
 

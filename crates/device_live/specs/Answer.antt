@@ -1,12 +1,27 @@
 -- What a device that lives answers to a line.
-use Rattle.std.specs.Prelude.{ℕ, ◌-◌, [], ◌∷◌, Result, Ok, Err, codes}
-use Rattle.std.specs.Fmt.{decimal}
+use Rattle.std.specs.{Prelude.{ℕ, ◌-◌, [], ◌∷◌, Result, Ok, Err, codes, List, map}, Fmt.decimal}
 use Rattle.device_types.specs.Address.{Bytes}
-use Rattle.printed_lines.specs.Line.{line_of, place_line}
+use Rattle.printed_lines.specs.Line.{line_of, place_line, word_digits}
 use Rattle.text_scan.specs.{declared.fault_kind.FaultKind.FaultKind, FaultName.fault_name, Reader.◌>>=◌}
 use Rattle.device_trace.specs.{Logs.exec_of, Progress.{last_registers, next_pc_of}, Start.Start, Trace.logs_after}
 use Rattle.debug_session.specs.{Place.{Run as PlayedRun, sight_at}, Shown.bytes_shown}
-use Rattle.device_live.specs.{Life.{Life, events_in, lines_since, play_lived, with_happening, with_steps}, LiveLine.{LiveLine, Happens, Run, Registers, Memory}, StateLines.{memory_text, registers_text}}
+use Rattle.device_live.specs.{Life.{Life, events_in, lines_since, play_lived, with_happening, with_steps}, LiveLine.{LiveLine, Happens, Run, Registers, Memory}}
+use Rattle.hex.specs.Hex.{encode_lower}
+
+-- The lines that show registers and bytes.
+
+-- `registers H4 ..`
+abbrev pub registers_text : List ℕ → Bytes
+registers_text words = line_of (codes "registers") (map word_digits words)
+
+-- bytes as two digits each, `-` where there is none
+abbrev pub bytes_piece : Bytes → Bytes
+bytes_piece [] = codes "-"
+bytes_piece (byte ∷ bytes) = encode_lower (byte ∷ bytes)
+
+-- `memory H4 HH..`
+abbrev pub memory_text : ℕ → Bytes → Bytes
+memory_text place bytes = line_of (codes "memory") (word_digits place ∷ bytes_piece bytes ∷ [])
 
 -- the life behind a line, what `play` prints of the steps that were made for it, and its answer
 pub record Answer : Type 0 where

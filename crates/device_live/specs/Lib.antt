@@ -1,7 +1,6 @@
 -- What is said to a device that lives, and what it answers.
 pub mod LiveLine
 pub mod Life
-pub mod StateLines
 pub mod Answer
 pub mod Conversation
 pub mod Laws
@@ -9,4 +8,3 @@ pub mod Laws
 pub mod Faults
 pub mod Living
 pub mod LineResponder
-pub mod Serving

@@ -3,7 +3,7 @@ use Rattle.std.specs.Prelude.{ℕ, zero, suc, ◌+◌, ◌++◌, List, [], Resul
 use Rattle.device_types.specs.{Address.Bytes, declared.event.Event.Event}
 use Rattle.play_script.specs.{Grammar.{ScriptSoFar, no_lines, with_entry}, Script.events_of}
 use Rattle.text_scan.specs.{declared.fault_kind.FaultKind.{FaultKind, TheVariants.Order}}
-use Rattle.device_trace.specs.{Play.Play, Start.Start, Text.lines_of_step, Trace.play_of}
+use Rattle.device_trace.specs.{Trace.{Play, play_of}, Start.Start, Text.lines_of_step}
 
 pub record Life : Type 0 where
   -- the lines of a script that were taken, of which some may speak of steps to come

@@ -3,9 +3,9 @@ use Rattle.std.specs.Prelude.{◌≡◌, ◌≤◌, ℕ, List, [], ◌∷◌, le
 use Rattle.std.specs.declared.alloc.AllocError.{AllocError}
 use Rattle.device_types.specs.TraceFlag.{Flag}
 use Rattle.hmac_core.specs.Hash.{Hash}
-use Rattle.outside_edge.specs.{Buffer.{Buffer, BufferStandsFor}, Count.Rose, Sink.{Takes, TakesPrefix}}
+use Rattle.outside_edge.specs.{Buffer.{Buffer, BufferStandsFor}, Calls.Rose, Sink.{Takes, TakesPrefix}}
 use Rattle.outside_edge.specs.declared.sink.Sink as sink
-use Rattle.source_server.specs.{LineResponder.LinePromise, Responder.Moment, Taken.most_input, declared.halt.Halt.{Halt, TheVariants.{Write, Own}}}
+use Rattle.source_server.specs.{Lines.LinePromise, Responder.Moment, Taken.most_input, declared.halt.Halt.{Halt, TheVariants.{Write, Own}}}
 use Rattle.device_trace.specs.Start.{Start}
 use Rattle.device_live.specs.{declared.living.Living.Living, Conversation.talk_of, Living.LivingStandsFor}
 

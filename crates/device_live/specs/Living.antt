@@ -3,9 +3,9 @@ use Rattle.std.specs.Prelude.{◌≡◌, ◌≤◌, ◌-◌, ◌++◌, ℕ, List
 use Rattle.device_types.specs.{Address.Bytes, declared.event.Event.Event, TraceFlag.Flag}
 use Rattle.hmac_core.specs.Hash.{Hash}
 use Rattle.std.specs.declared.alloc.AllocError.{AllocError}
-use Rattle.outside_edge.specs.{Count.Rose, Sink.{Takes, TakesPrefix}}
+use Rattle.outside_edge.specs.{Calls.Rose, Sink.{Takes, TakesPrefix}}
 use Rattle.outside_edge.specs.declared.sink.Sink as sink
-use Rattle.play_script.specs.{Happening.events_in as events_said, Script.{TimedEvent, events_of}}
+use Rattle.play_script.specs.Script.{events_in as events_said, TimedEvent, events_of}
 use Rattle.text_scan.specs.{declared.{fault_kind.FaultKind.FaultKind, word_fault.WordFault.WordFault}}
 use Rattle.text_scan.specs.declared.word_fault.WordFault.TheVariants as words
 use Rattle.source_server.specs.{declared.halt.Halt.{Halt, TheVariants.{Write, Own}}}

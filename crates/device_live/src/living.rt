@@ -1,6 +1,6 @@
 ghost use Rattle.std.specs.Prelude.{◌≡◌, ◌≤◌, [], length};
 ghost use Rattle.outside_edge.specs.Sink.{CountsFaults, Puts};
-ghost use Rattle.play_script.specs.Happening.{events_in};
+ghost use Rattle.play_script.specs.Script.{events_in};
 ghost use Rattle.text_scan.specs.Word.{words_of};
 ghost use Rattle.device_trace.specs.Start.{Start};
 ghost use Rattle.device_core.specs.Device.{HeldStandsFor};

@@ -3,7 +3,7 @@ ghost use Rattle.outside_edge.specs.Sink.{CountsFaults, Puts};
 ghost use Rattle.source_server.specs.{declared.served.Served.TheVariants.Done, Serving.Serves};
 ghost use Rattle.device_trace.specs.Start.{Start};
 ghost use Rattle.device_core.specs.Device.{HeldStandsFor};
-ghost use Rattle.device_live.specs.{Answer.standing_line, Faults.end_with, Life.Life, Living.LivingStandsFor, Serving.life_promise};
+ghost use Rattle.device_live.specs.{Answer.standing_line, Faults.end_with, Life.Life, Living.LivingStandsFor, Conversation.life_promise};
 
 use crate::living::Living;
 use device_core::{Device, Held};

@@ -2,7 +2,7 @@ ghost use Rattle.std.specs.Prelude.{◌≤◌};
 ghost use Rattle.outside_edge.specs.Sink.{CountsFaults, Puts};
 ghost use Rattle.device_core.specs.Device.{LiveStandsFor};
 ghost use Rattle.device_trace.specs.Start.{Start};
-ghost use Rattle.device_live.specs.{Answer.{memory_line, registers_line}, Life.{Life, play_lived}, StateLines.{memory_text, registers_text}};
+ghost use Rattle.device_live.specs.{Answer.{memory_line, registers_line, memory_text, registers_text}, Life.{Life, play_lived}};
 
 use debug_walk::live_bytes;
 use device_core::Live;

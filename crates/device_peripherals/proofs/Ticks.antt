@@ -5,7 +5,7 @@ use Rattle.std.proofs.Math.Nat.{mod-eq_of_lt}
 use Rattle.word_arith.specs.Number.{bit_of}
 use Rattle.std.proofs.lemmas.Bool.Decides.{nat_tests}
 use Rattle.part_definitions.specs.Timer.{TimerEvent, Tick, timer_runs, timer_writes, timer_count, timer_compare, timer_flag, timer_requests, timer_control, steps_of_count}
-use Rattle.device_peripherals.specs.Ticks.{with_ticks, ticks_before_zero}
+use Rattle.device_peripherals.specs.Timer.{with_ticks, ticks_before_zero}
 use Rattle.device_peripherals.proofs.Tick.{timer_count_within, timer_flag_within}
 
 pub ticks-writes : (steps : ℕ) (events : List TimerEvent)

@@ -1,9 +1,7 @@
 pub mod Register
 pub mod Pins
-pub mod Ticks
 pub mod Timer
 pub mod Order
 pub mod Serial
-pub mod Activity
 pub mod Dma
 pub mod Distance

@@ -26,7 +26,7 @@ pub enum Activity {
 }
 
 impl Activity {
-    ghost use Rattle.device_peripherals.specs.Activity.{ActivityStandsFor};
+    ghost use Rattle.device_peripherals.specs.Dma.{ActivityStandsFor};
 
     /// The beginning of a transfer; of no words there is none.
     pub fn begin(source: u16, destination: u16, words: u16) -> Activity

@@ -25,7 +25,7 @@ pub struct Timer {
 }
 
 impl Timer {
-    ghost use Rattle.device_peripherals.specs.{Ticks.{with_ticks, ticks_before_zero}, Timer.TimerStandsFor};
+    ghost use Rattle.device_peripherals.specs.Timer.{with_ticks, ticks_before_zero, TimerStandsFor};
 
     /// A timer that is stopped, with all registers 0.
     pub fn new() -> Timer

@@ -1,7 +1,7 @@
 -- What a watcher says of a play goes on from what it says of the steps before.
 use Rattle.std.proofs.Common.{◌≡◌, ◌++◌, ◌∷◌, ◌∙◌, ℕ, List, true, false, refl, ap, sym, append_assoc}
 use Rattle.device_types.specs.declared.event.Event.{Event}
-use Rattle.device_trace.specs.{Play.Play, Start.Start, Text.{lines_of, lines_of_step}}
+use Rattle.device_trace.specs.{Trace.Play, Start.Start, Text.{lines_of, lines_of_step}}
 use Rattle.trace_files.specs.{WaveText.{header, steps_text}, TraceText.{trace_lines, trace_text}, WaveSamples.wave_samples}
 use Rattle.device_play.specs.{Account.GoesOn, Accounts.{change_text, dump_account, line_account, trace_account, wave_account}}
 use Rattle.device_play.proofs.SilentStep.{silent-lines}

@@ -3,7 +3,7 @@ use Rattle.std.proofs.Common.{◌≡◌, ◌≤◌, ◌<◌, ◌+◌, ◌-◌, �
 use Rattle.std.proofs.lemmas.Bool.{cases_lt, false_from_ne_true}
 use Rattle.device_types.specs.{declared.event.Event.Event, TraceFlag.Flag}
 use Rattle.hmac_core.specs.Hash.{Hash}
-use Rattle.device_trace.specs.{Play.Play, Start.Start, Trace.play_of}
+use Rattle.device_trace.specs.{Trace.{Play, play_of}, Start.Start}
 use Rattle.play_script.specs.declared.playback.Playback.{Playback}
 use Rattle.device_core.specs.{Device.steps_made, Quiet.Question, Silence.{OfEach, is_silent, with_idle}, declared.live.Live.Live}
 use Rattle.device_play.specs.{Account.IsPassed, Midway.HasGoneOn}

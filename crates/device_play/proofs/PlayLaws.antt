@@ -1,9 +1,9 @@
 -- A play obeys the laws of the device.
 use Rattle.std.proofs.Common.{◌≡◌, ◌∙◌, Bool, Some, ap, subst, sym}
 use Rattle.std.proofs.lemmas.Bool.{false≢true}
-use Rattle.device_types.specs.{Address.{Bytes, Contents}, Report.ReportFields, SeenRecord.SeenHistory, declared.bounds.Bounds.Bounds}
+use Rattle.device_types.specs.{Address.{Bytes, Contents}, Report.ReportFields, ExecFlag.SeenHistory, declared.bounds.Bounds.Bounds}
 use Rattle.part_definitions.specs.{Hmac.Digest, Request.ATTESTS}
-use Rattle.device_trace.specs.{Play.Play, RegionRun.{TrustedRun, WholeRun}, Start.{Start, with_key}, Text.last_report, Trace.trace}
+use Rattle.device_trace.specs.{Trace.{Play, trace}, RegionRun.{TrustedRun, WholeRun}, Start.{Start, with_key}, Text.last_report}
 use Rattle.trace_facts.proofs.{NeverBroken.trace-names_neither, LastReport.last_report-made, RomCode.trace-in_call}
 use Rattle.key_isolation.proofs.TwoKeys.{looks_keyless}
 use Rattle.mac_coverage.specs.Coverage.{IsDeviceKey, IsOfBytes, MacCoversCall}
@@ -12,7 +12,7 @@ use Rattle.proof_of_execution.proofs.Plays.{decision-whole_run}
 use Rattle.request_freshness.proofs.Reports.{report-new}
 use Rattle.trusted_execution.proofs.StillTime.{decision-trusted_run}
 use Rattle.device_core.proofs.Outside.{keeps-counter}
-use Rattle.device_play.specs.{LawfulReport.IsLawfulReport, PlayLaws.{IsLawfulMoment, KeepsKeyHidden, ObeysLaws}}
+use Rattle.device_play.specs.PlayLaws.{IsLawfulReport, IsLawfulMoment, KeepsKeyHidden, ObeysLaws}
 
 pub keeps_key_hidden : (start : Start) (play : Play) → KeepsKeyHidden start play
 keeps_key_hidden start play = λ later earlier parts. looks_keyless start earlier

@@ -3,7 +3,7 @@ use Rattle.std.proofs.Common.{◌≡◌, ◌∷◌, List, Result, Ok, Err}
 use Rattle.std.specs.Prelude.{IsErrAnd}
 use Rattle.device_types.specs.{Address.Bytes, declared.event.Event.Event}
 use Rattle.outside_edge.specs.Sink.{Takes, TakesPrefix}
-use Rattle.device_trace.specs.{Play.Play, Start.Start}
+use Rattle.device_trace.specs.{Trace.Play, Start.Start}
 use Rattle.device_play.specs.{Account.Account, Watching.HasSeen, declared.put_fault.PutFault.{PutFault, TheVariants.Write}}
 
 pub seen-all :

@@ -3,7 +3,7 @@ use Rattle.std.specs.Prelude.{◌≡◌, ◌++◌, ◌&&◌, ℕ, true, List, []
 use Rattle.std.proofs.Common.{ap}
 use Rattle.std.proofs.lemmas.Bool.{false≢true}
 use Rattle.device_types.specs.{declared.{bus_record.BusRecord.BusRecord, event.Event.Event, rule.Rule.Rule}, Report.ReportFields}
-use Rattle.device_trace.specs.{Logs.Logs, Play.Play, Start.Start, Step.next_record, Text.{byte_sent_in, last_byte_sent, last_decision, last_report, report_in, report_where, denial_where, some_line, lines_of_step}, Trace.{trace, logs_after}}
+use Rattle.device_trace.specs.{Logs.Logs, Trace.{Play, trace, logs_after}, Start.Start, Step.next_record, Text.{byte_sent_in, last_byte_sent, last_decision, last_report, report_in, report_where, denial_where, some_line, lines_of_step}}
 use Rattle.printed_lines.specs.Line.{sent_line, reset_line, report_line, denied_line}
 use Rattle.device_core.specs.Silence.{last_rule, is_silent}
 

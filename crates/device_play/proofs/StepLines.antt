@@ -2,7 +2,7 @@
 use Rattle.std.proofs.Common.{◌≡◌, ◌++◌, ◌∷◌, ℕ, List, Result, Option, length, refl}
 use Rattle.device_types.specs.{declared.{event.Event.Event, rule.Rule.Rule}, Report.ReportFields}
 use Rattle.outside_edge.specs.Sink.{Puts}
-use Rattle.device_trace.specs.{Play.Play, Start.Start, Text.{last_byte_sent, last_denial, last_report, some_line, lines_of_step}, Trace.trace}
+use Rattle.device_trace.specs.{Trace.{Play, trace}, Start.Start, Text.{last_byte_sent, last_denial, last_report, some_line, lines_of_step}}
 use Rattle.printed_lines.specs.Line.{sent_line, reset_line, report_line, denied_line}
 use Rattle.device_core.specs.Silence.{last_rule}
 

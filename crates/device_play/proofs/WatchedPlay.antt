@@ -5,7 +5,7 @@ use Rattle.device_types.specs.{Address.Bytes, declared.event.Event.Event, TraceF
 use Rattle.hmac_core.specs.Hash.{Hash}
 use Rattle.outside_edge.specs.Sink.{Takes, TakesPrefix}
 use Rattle.outside_edge.proofs.SinkLemmas.{prefix_after, prefix_of_more, takes_both}
-use Rattle.device_trace.specs.{Play.Play, Start.Start, Trace.play_of}
+use Rattle.device_trace.specs.{Trace.{Play, play_of}, Start.Start}
 use Rattle.play_script.specs.declared.playback.Playback.{Playback}
 use Rattle.device_core.specs.{Device.{LiveStandsFor, steps_made}, Quiet.Question, declared.live.Live.Live}
 use Rattle.device_play.specs.{Account.{Account, GoesOn, IsPassed, whole_text}, Cuts.TakesOneOf, Midway.{HasGoneOn, IsMidway}, Watching.{HasSeen, IsShown, IsWatched}, declared.put_fault.PutFault.{PutFault, TheVariants.{Write, Memory}}}

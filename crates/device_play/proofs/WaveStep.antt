@@ -3,7 +3,7 @@ use Rattle.std.proofs.Common.{◌≡◌, [], ◌∷◌, ℕ, suc, List, Some, Re
 use Rattle.device_types.specs.{declared.{bus_record.BusRecord.BusRecord, event.Event.Event}}
 use Rattle.outside_edge.specs.Sink.{Puts}
 use Rattle.part_definitions.specs.Pins.{pins_word}
-use Rattle.device_trace.specs.{Logs.{with_events, with_record}, Play.Play, Start.Start, Step.next_record, Text.byte_sent_in, Trace.{last_record, logs_after, trace}}
+use Rattle.device_trace.specs.{Logs.{with_events, with_record}, Trace.{Play, last_record, logs_after, trace}, Start.Start, Step.next_record, Text.byte_sent_in}
 use Rattle.trace_files.specs.{declared.{ports.Ports.Ports, sample.Sample.Sample}, WaveText.{last_shown, shown_after, step_text}, TraceText.{last_line, next_line}, WaveSamples.{byte_received_in, last_ports, last_sample, next_ports, next_sample, play_state, wave_samples}}
 use Rattle.device_play.specs.Accounts.{change_text}
 

@@ -1,7 +1,7 @@
 -- A call that puts text and may run out of memory: what it put, and what it counted.
 use Rattle.std.proofs.Common.{◌≡◌, ◌≤◌, ◌⊎◌, [], ℕ, List, Result, Ok, Err, inl, refl, arith}
 use Rattle.std.specs.Prelude.{IsErrAnd}
-use Rattle.outside_edge.specs.{Count.Rose, Sink.{TakesPrefix, Puts}}
+use Rattle.outside_edge.specs.{Calls.Rose, Sink.{TakesPrefix, Puts}}
 use Rattle.device_play.specs.{declared.put_fault.PutFault.{PutFault, TheVariants.{Write, Memory}}, Cuts.CountsWriteFaults}
 use Rattle.device_play.proofs.PutsLemmas.{takes-nothing}
 

@@ -1,7 +1,7 @@
 -- What a watcher says of plays.
 use Rattle.std.specs.Prelude.{◌≡◌, ◌++◌, ◌∷◌, Bool, true, false, List, [], Contains}
 use Rattle.device_types.specs.{Address.Bytes, declared.event.Event.Event}
-use Rattle.device_trace.specs.{Play.Play, Start.Start}
+use Rattle.device_trace.specs.{Trace.Play, Start.Start}
 use Rattle.device_core.specs.Silence.{is_silent}
 
 pub record Account (Tally : Type 0) : Type 1 where

@@ -3,8 +3,8 @@ use Rattle.std.specs.Prelude.{◌++◌, [], ℕ, List, Option, Some, None, lengt
 use Rattle.device_types.specs.{Address.Bytes, declared.event.Event.Event}
 use Rattle.part_definitions.specs.Memory.{is_image_place}
 use Rattle.hex_loader.specs.HexText.{hex_text}
-use Rattle.device_trace.specs.{Play.Play, Start.Start, Text.{lines_of, lines_of_step, end_line_after}, Trace.{byte_after, logs_after}}
-use Rattle.trace_files.specs.{LineText.trace_line, LineReadBack.ArePrintable, declared.wave.Wave.Wave, Wave.WaveStandsFor, WaveText.{end_text, header, last_shown, shown_after, step_text, steps_text}, TraceText.{next_line, trace_lines, trace_text}, WaveSamples.{next_sample, wave_samples}}
+use Rattle.device_trace.specs.{Trace.{Play, byte_after, logs_after}, Start.Start, Text.{lines_of, lines_of_step, end_line_after}}
+use Rattle.trace_files.specs.{LineText.trace_line, LineReadBack.ArePrintable, declared.wave.Wave.Wave, WaveText.{WaveStandsFor, end_text, header, last_shown, shown_after, step_text, steps_text}, TraceText.{next_line, trace_lines, trace_text}, WaveSamples.{next_sample, wave_samples}}
 use Rattle.device_play.specs.Account.{Account}
 
 abbrev pub end_line_of : Start → Play → Bytes

@@ -1,7 +1,7 @@
 -- Where the putting of a text stops when memory runs out.
 use Rattle.std.specs.Prelude.{◌≡◌, ◌≤◌, ◌++◌, ◌⊎◌, List, ℕ, Result, IfErr, OnOk, Contains, map}
 use Rattle.device_types.specs.Address.{Bytes}
-use Rattle.outside_edge.specs.{Count.Rose, Sink.Takes}
+use Rattle.outside_edge.specs.{Calls.Rose, Sink.Takes}
 use Rattle.device_play.specs.{declared.put_fault.PutFault.{PutFault, TheVariants.{Write, Memory}}}
 
 -- these texts, each behind that one

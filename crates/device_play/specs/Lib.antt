@@ -4,7 +4,6 @@ pub mod Watching
 pub mod Cuts
 pub mod Limit
 pub mod PlayLaws
-pub mod LawfulReport
 -- What the watchers of this crate say.
 pub mod Accounts
 pub mod TraceLine

@@ -1,11 +1,11 @@
 -- What the laws of the device say of a play.
-use Rattle.std.specs.Prelude.{◌≡◌, All}
-use Rattle.device_types.specs.Address.{Bytes}
+use Rattle.std.specs.Prelude.{◌≡◌, All, ◌<◌, ◌++◌, length}
+use Rattle.device_types.specs.{Address.Bytes, Report.ReportFields}
 use Rattle.part_definitions.specs.{Hmac.Digest, TrustedFlag.aux}
-use Rattle.device_trace.specs.{Moment.EachMoment, Play.Play, Report.EachReport, Start.Start, Trace.trace}
-use Rattle.trace_facts.specs.{Naming.NamesNeitherA1NorK3, RomCode.RunsRomInCall}
+use Rattle.device_trace.specs.{Report.{EachMoment, EachReport, AuxMeansTrustedRun, ExecMeansWholeRun}, Trace.{Play, trace}, Start.Start}
+use Rattle.trace_facts.specs.Naming.{NamesNeitherA1NorK3, RunsRomInCall}
 use Rattle.key_isolation.specs.Keyless.{LooksKeyless}
-use Rattle.mac_coverage.specs.Coverage.{MacCoversLastCall}
+use Rattle.mac_coverage.specs.{Coverage.{MacCoversLastCall, Gives32Bytes, attested_after, call_length}, AttestedBytes.{AttestedBytes, tag_of}}
 use Rattle.proof_of_execution.specs.WholeCall.{ExecAfterCallMeansWholeRun}
 use Rattle.trusted_execution.specs.TrustedCall.{AuxAfterCallMeansTrustedRun}
 use Rattle.request_freshness.specs.Freshness.{TellsNewCounter}
@@ -34,3 +34,18 @@ pub record ObeysLaws (digest : Digest) (key : Bytes) (start : Start) (play : Pla
   -- no step is refused for A1 or K3, and each that is made in the ROM is one of a call
   pub rules : All NamesNeitherA1NorK3 (trace start play)
   pub rom : All RunsRomInCall (trace start play)
+
+-- What a report tells of the moment at which it is made.
+
+-- a report that the last step of a play makes, of a device with this key
+pub record IsLawfulReport (digest : Digest) (key : Bytes) (start : Start) (report : ReportFields)
+    (play : Play) : Type 0 where
+  -- its MAC is the tag of what stands in memory from the end of the first step of its call on
+  pub contents : AttestedBytes
+  pub throughout : (later earlier : Play)
+      → play ≡ later ++ earlier → length later < call_length start play
+      → attested_after start earlier ≡ contents
+  pub tag : Gives32Bytes digest → report.mac ≡ tag_of digest key contents
+  -- EXEC 1 comes with a whole run, and AUX 1 with a trusted one
+  pub whole_run : ExecMeansWholeRun start report play
+  pub trusted_run : start.second_flag ≡ aux → AuxMeansTrustedRun start report play

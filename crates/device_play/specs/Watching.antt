@@ -3,8 +3,8 @@ use Rattle.std.specs.Prelude.{◌≡◌, ◌++◌, ◌∷◌, [], ℕ, List, len
 use Rattle.device_types.specs.{Address.Bytes, declared.event.Event.Event, TraceFlag.Flag}
 use Rattle.hmac_core.specs.Hash.{Hash}
 use Rattle.outside_edge.specs.Sink.{Puts}
-use Rattle.device_trace.specs.{Play.Play, Start.Start}
-use Rattle.device_core.specs.{Device.{HeldStandsFor, LiveStandsFor}, ForEachKey.ForEachKey, declared.{device.{Device.Device, Held.Held}, live.Live.Live}}
+use Rattle.device_trace.specs.{Trace.Play, Start.Start}
+use Rattle.device_core.specs.{Device.{HeldStandsFor, LiveStandsFor}, Step.ForEachKey, declared.{device.{Device.Device, Held.Held}, live.Live.Live}}
 use Rattle.device_play.specs.{Account.{Account, whole_text}, Cuts.{StopsOnlyAt, StopsWhere}, PlayLaws.{KeepsKeyHidden, ObeysLaws}, declared.put_fault.PutFault.PutFault}
 
 -- there is what a device is powered on with, and it has made no step

@@ -1,9 +1,9 @@
 ghost use Rattle.std.specs.Prelude.{◌≡◌, ◌++◌, ◌∷◌, List, Some, length};
 ghost use Rattle.device_types.specs.declared.event.Event.{Event};
 ghost use Rattle.outside_edge.specs.Sink.{Puts, CountsFaults};
-ghost use Rattle.device_trace.specs.{Play.Play, Start.Start, Text.{some_line, lines_of_step}};
+ghost use Rattle.device_trace.specs.{Trace.Play, Start.Start, Text.{some_line, lines_of_step}};
 ghost use Rattle.printed_lines.specs.Line.{sent_line, reset_line, report_line, denied_line};
-ghost use Rattle.device_core.specs.{Device.{LiveStandsFor, OfLive}, StepLine.{byte_in_line, rule_in_line, report_in_line, denied_in_line}};
+ghost use Rattle.device_core.specs.{Device.{LiveStandsFor, OfLive}, Silence.{byte_in_line, rule_in_line, report_in_line, denied_in_line}};
 ghost use Rattle.device_play.specs.Accounts.{end_line_of};
 
 use crate::put_fault::PutFault;

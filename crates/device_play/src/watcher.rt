@@ -13,7 +13,7 @@ pub trait Watcher {
     ghost use Rattle.device_types.specs.declared.event.Event.{Event};
     ghost use Rattle.outside_edge.specs.Sink.{Puts, CountsFaults};
     ghost use Rattle.part_definitions.specs.Hmac.{Digest};
-    ghost use Rattle.device_trace.specs.{Play.Play, Start.Start};
+    ghost use Rattle.device_trace.specs.{Trace.Play, Start.Start};
     ghost use Rattle.device_play.specs.{Account.{Account, GoesOn}, Cuts.CountsWriteFaults, Watching.{HasSeen, IsShown, IsShownSome}};
 
     /// What it keeps of the steps so far.

@@ -1,6 +1,6 @@
 -- A history with the secrets blanked: what stands in the key and in the exclusive stack.
 use Rattle.std.specs.Prelude.{◌||◌, ℕ, Bool, List, map, Option, Some, None, if◌then◌else◌, ◌≡◌, IsFalse}
-use Rattle.device_types.specs.{declared.{access.Access.{Access, TheVariants.Write}, bus_record.BusRecord.BusRecord}, SeenRecord.SeenRecord, Map.{lies_in, touches, key_region, stack_region}, Address.{Contents, Address}}
+use Rattle.device_types.specs.{declared.{access.Access.{Access, TheVariants.Write}, bus_record.BusRecord.BusRecord}, ExecFlag.SeenRecord, Map.{lies_in, touches, key_region, stack_region}, Address.{Contents, Address}}
 
 abbrev pub touches_secrets : Access → Bool
 touches_secrets access = touches access key_region || touches access stack_region

@@ -1,9 +1,9 @@
 -- Images and plays that the definitions are tried against.
 use Rattle.std.specs.Prelude.{◌&&◌, ◌++◌, ◌+◌, ◌-◌, ◌*◌, ℕ, zero, suc, List, [], ◌∷◌, length, map, if◌then◌else◌, nat_le, nat_lt, slice_index}
-use Rattle.word_arith.specs.Word16.{Word16}
-use Rattle.device_types.specs.{declared.event.Event.{Event, TheVariants.Rx}, Map.COUNTER, SeenRecord.no_flag, Address.{Contents, Bytes, Address}}
+use Rattle.word_arith.specs.Number.{Word16}
+use Rattle.device_types.specs.{declared.event.Event.{Event, TheVariants.Rx}, Map.COUNTER, ExecFlag.no_flag, Address.{Contents, Bytes, Address}}
 use Rattle.part_definitions.specs.Attestation.{bytes_of_words}
-use Rattle.device_trace.specs.{Start.{Start, with_key}, Play.Play}
+use Rattle.device_trace.specs.{Start.{Start, with_key}, Trace.Play}
 
 -- numbers from one upwards, so many
 abbrev pub upwards : ℕ → ℕ → Bytes

@@ -1,7 +1,5 @@
-pub mod Play
 pub mod Start
 pub mod Progress
-pub mod Level
 pub mod Peripherals
 pub mod Logs
 pub mod Signals
@@ -11,7 +9,6 @@ pub mod AccessesAreFormed
 pub mod Blank
 pub mod RegionRun
 pub mod Text
-pub mod Moment
 pub mod Report
 pub mod Example
 pub mod WorkedPlay

@@ -1,8 +1,8 @@
 -- What happened to each part of the device, made from events and records by one projection a part.
 use Rattle.std.specs.Prelude.{◌==◌, ◌&&◌, ◌++◌, ℕ, Bool, not, List, [], ◌∷◌, map, Option, Some, None, is_none, if◌then◌else◌}
-use Rattle.device_types.specs.{declared.{access.Access.{Access, TheVariants.Write}, bus_record.BusRecord.BusRecord, event.Event.Event, kind.Kind.{Kind, TheVariants.Rom}, rule.Rule.Rule, bounds.Bounds.Bounds}, Kind.{is_irq, is_rom}, Map.{lies_in, mac_region, ROM_ENTRY, ROM_EXIT}, SeenRecord.SeenRecord, ExecFlag.exec}
+use Rattle.device_types.specs.{declared.{access.Access.{Access, TheVariants.Write}, bus_record.BusRecord.BusRecord, event.Event.Event, kind.Kind.{Kind, TheVariants.Rom}, rule.Rule.Rule, bounds.Bounds.Bounds}, Kind.{is_irq, is_rom}, Map.{lies_in, mac_region, ROM_ENTRY, ROM_EXIT}, ExecFlag.{SeenRecord, exec}}
 use Rattle.part_definitions.specs.{Attestation.decision_read, CpuRegister.allows_interrupts, CpuState.Boundary, Interrupt.first_vector, Memory.{MemoryWrite, ShownFlags, with_access, byte_at}, Metadata.bounds_in}
-use Rattle.device_trace.specs.{Blank.blank_seen, Level.level_after, Peripherals.{Peripherals, power_on_peripherals, with_all_events, requests, with_step}, Progress.{Progress, Held, Runs, InCall, last_registers, progress_within, next_progress}, Start.Start}
+use Rattle.device_trace.specs.{Blank.blank_seen, Progress.{level_after, Progress, Held, Runs, InCall, last_registers, progress_within, next_progress}, Peripherals.{Peripherals, power_on_peripherals, with_all_events, requests, with_step}, Start.Start}
 
 pub record Logs : Type 0 where
   pub progress : Progress

@@ -1,6 +1,6 @@
 -- What happened to each peripheral: what the events of a step and its record add to the lists.
 use Rattle.std.specs.Prelude.{◌==◌, ◌++◌, ℕ, List, [], ◌∷◌, Option, Some, None, if◌then◌else◌}
-use Rattle.word_arith.specs.{declared.size.Size.{Size, TheVariants.Word}, Word16.Word16}
+use Rattle.word_arith.specs.{declared.size.Size.{Size, TheVariants.Word}, Number.Word16}
 use Rattle.device_types.specs.{declared.{access.Access.{Access, TheVariants.{Fetch, Read, Write}}, event.Event.{Event, TheVariants.{Rx, Pins, Dma, Reset}}, rule.Rule.Rule}, Map.{lies_in, pins_region, serial_region, timer_region, dma_region, SERIAL_VECTOR, TIMER_VECTOR}, Address.Address}
 use Rattle.part_definitions.specs.{Dma.{DmaEvent, TransferStart, DmaAccess, dma_read}, Pins.pins_read, Serial.{SerialEvent, Arrival, Load, serial_read, serial_requests}, Timer.{TimerEvent, Tick, Acceptance, timer_read, timer_requests}}
 use Rattle.part_definitions.specs.Dma as DmaEngine

@@ -1,10 +1,11 @@
 -- Where the device stands between two steps: whose step comes next, with which access, and what it
 -- leads to.
-use Rattle.std.specs.Prelude.{◌==◌, ◌++◌, ℕ, Bool, true, false, List, [], ◌∷◌, Option, Some, None, is_some, if◌then◌else◌}
-use Rattle.word_arith.specs.{declared.size.Size.TheVariants.Word, Word16.Word16}
+use Rattle.std.specs.Prelude.{◌==◌, ◌++◌, ℕ, Bool, true, false, List, [], ◌∷◌, Option, Some, None, is_some, if◌then◌else◌, ◌+◌, ◌-◌, ◌^◌, min}
+use Rattle.word_arith.specs.{declared.size.Size.TheVariants.Word, Number.Word16}
 use Rattle.device_types.specs.{declared.{access.Access.Access, kind.Kind.{Kind, TheVariants.{Boot, Cpu, Idle, Irq, Rom}}}, Map.{ROM_ENTRY, RESET_VECTOR}, Address.Address}
 use Rattle.part_definitions.specs.{BusAccess.read_at, Attestation.{call_item, item_access, item_pc, bounds_read, is_return, word_passed}, CpuRegister.{Registers, clear_registers, pc_of, sp_of, with_pc, after_pop, is_asleep}, CpuState.{CpuState, Boundary, Executing, Entering, registers_of, cpu_pc, cpu_access, cpu_after, entry_begun, is_at_boundary}, MonitorRule.in_rom}
 use Rattle.device_trace.specs.Start.{Start}
+use Rattle.msp_decode.specs.{declared.head.Head.TheVariants.Reti, Spelling.word_of}
 
 pub data Progress : Type 0 where
   -- after power-on and after a reset: the next step boots
@@ -105,3 +106,19 @@ next_progress kind Held access value = Runs (Boundary (with_pc clear_registers v
 next_progress kind (Runs cpu) access value = Runs (cpu_state_after kind cpu value)
 next_progress kind (InCall regs words) access value =
     call_after regs words (word_passed access value)
+
+-- How many handlers were entered and not left, as far as a number of 64 bits counts. One is entered
+-- with the first step of its entry, and left with the fetch of its RETI; a reset leaves all.
+
+-- from a boundary to here
+abbrev pub level_from_boundary : Progress → ℕ → ℕ
+level_from_boundary (Runs (Entering regs vector values)) level = min (level + 1) (2 ^ 64 - 1)
+level_from_boundary (Runs (Executing regs (word ∷ values))) level =
+    if word == word_of Reti then level - 1 else level
+level_from_boundary after level = level
+
+-- behind a step from the first to the second
+abbrev pub level_after : Progress → Progress → ℕ → ℕ
+level_after before Held level = 0
+level_after (Runs (Boundary regs)) after level = level_from_boundary after level
+level_after before after level = level

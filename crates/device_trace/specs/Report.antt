@@ -1,7 +1,13 @@
 -- The reports of a play.
-use Rattle.std.specs.Prelude.{◌≡◌, Some, IsTrue}
+use Rattle.std.specs.Prelude.{◌≡◌, Some, IsTrue, ◌++◌}
 use Rattle.device_types.specs.Report.{ReportFields}
-use Rattle.device_trace.specs.{Moment.EachMoment, Start.Start, Text.last_report, Trace.trace, RegionRun.{TrustedRun, WholeRun}, Play.Play}
+use Rattle.device_trace.specs.{Start.Start, Text.last_report, Trace.{trace, Play}, RegionRun.{TrustedRun, WholeRun}}
+
+-- Moments of a play.
+
+-- this holds at each moment of a play, from power-on to its end: of the play up to it
+abbrev pub EachMoment : Play → (Play → Type 0) → Type 0
+EachMoment play holds = (later earlier : Play) → play ≡ later ++ earlier → holds earlier
 
 -- this holds of every report that a play makes, and of the play up to it
 abbrev pub EachReport : Start → Play → (ReportFields → Play → Type 0) → Type 0

@@ -1,6 +1,6 @@
 -- What a step is about to do.
 use Rattle.std.specs.Prelude.{◌&&◌, ℕ, Bool, Option, Some, is_some, length, if◌then◌else◌}
-use Rattle.word_arith.specs.{declared.size.Size.{Size, TheVariants.Word}, Word16.Word16}
+use Rattle.word_arith.specs.{declared.size.Size.{Size, TheVariants.Word}, Number.Word16}
 use Rattle.device_types.specs.{declared.{access.Access.{Access, TheVariants.{Fetch, Read}}, kind.Kind.Kind, signals.Signals.Signals}, Map.{lies_in, peripheral_region}, Address.Address}
 use Rattle.part_definitions.specs.{Dma.dma_access, Memory.number_at}
 use Rattle.device_trace.specs.{Logs.{Logs, logged_byte, vector_of, step_progress}, Peripherals.peripheral_read, Progress.{kind_of, next_pc_of, tells_irq, access_of, fetches_opcode}, Start.Start}

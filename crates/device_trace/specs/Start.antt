@@ -1,8 +1,8 @@
 -- What a trace is of: what the device is powered on with, its second flag, and the words that its
 -- calls write.
 use Rattle.std.specs.Prelude.{ℕ, Bool, List, slice_index}
-use Rattle.word_arith.specs.Word16.{Word16}
-use Rattle.device_types.specs.{SeenRecord.SeenHistory, Address.{Contents, Bytes}}
+use Rattle.word_arith.specs.Number.{Word16}
+use Rattle.device_types.specs.{ExecFlag.SeenHistory, Address.{Contents, Bytes}}
 use Rattle.part_definitions.specs.{Attestation.{CallItem, DecisionWrite, MacWrite, written_word}, Memory.PowerOn, Hmac.Digest}
 
 pub record Start : Type 0 where

@@ -4,7 +4,7 @@ use Rattle.std.specs.Prelude.{◌==◌, ◌++◌, ℕ, List, [], ◌∷◌, Opti
 use Rattle.device_types.specs.{declared.{access.Access.{Access, TheVariants.Write}, bus_record.BusRecord.BusRecord, event.Event.Event, rule.Rule.Rule, bounds.Bounds.Bounds, version.Version.TheVariants.Two}, Report.ReportFields, Bounds.are_valid, Address.{Contents, Bytes}}
 use Rattle.part_definitions.specs.{Metadata.{counter_bytes, little_endian}, Request.ATTESTS, Region.{challenge_bytes, mac_bytes, output_bytes}, Serial.byte_sent}
 use Rattle.printed_lines.specs.Line.{sent_line, reset_line, report_line, denied_line, end_line}
-use Rattle.device_trace.specs.{Logs.{Logs, exec_of, aux_of, logged_byte, logged_bounds}, Progress.next_pc_of, Start.Start, Step.next_record, Trace.logs_after, Play.Play}
+use Rattle.device_trace.specs.{Logs.{Logs, exec_of, aux_of, logged_byte, logged_bounds}, Progress.next_pc_of, Start.Start, Step.next_record, Trace.{logs_after, Play}}
 
 -- the byte that an access which was not refused sent by the serial port
 abbrev pub byte_sent_by : Option Rule → Option Access → Option ℕ

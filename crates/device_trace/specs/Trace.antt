@@ -1,8 +1,14 @@
 -- The trace of a play: the list of the records of its steps, newest first.
 use Rattle.std.specs.Prelude.{ℕ, Bool, zero, suc, List, [], ◌∷◌, Option, Some, None}
-use Rattle.word_arith.specs.Word16.{Word16}
-use Rattle.device_types.specs.{declared.{bus_record.BusRecord.BusRecord, event.Event.Event, signals.Signals.Signals, bounds.Bounds.Bounds}, SeenRecord.SeenHistory, Address.Contents}
-use Rattle.device_trace.specs.{Logs.{Logs, power_on_logs, logged_byte, logged_bounds, with_events, with_record}, Start.{Start, without_key}, Step.{next_record, next_signals}, Play.Play}
+use Rattle.word_arith.specs.Number.{Word16}
+use Rattle.device_types.specs.{declared.{bus_record.BusRecord.BusRecord, event.Event.Event, signals.Signals.Signals, bounds.Bounds.Bounds}, ExecFlag.SeenHistory, Address.Contents}
+use Rattle.device_trace.specs.{Logs.{Logs, power_on_logs, logged_byte, logged_bounds, with_events, with_record}, Start.{Start, without_key}, Step.{next_record, next_signals}}
+
+-- Plays: what a run is of.
+
+-- the events of each step, the newest step first
+abbrev pub Play : Type 0
+Play = List (List Event)
 
 abbrev pub next_logs : Start → Logs → List Event → Logs
 next_logs start logs events =

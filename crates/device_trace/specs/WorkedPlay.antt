@@ -2,7 +2,7 @@
 use Rattle.std.specs.Prelude.{◌≡◌, ◌++◌, List, [], ◌∷◌, map, replicate, take, drop, codes}
 use Rattle.hex.specs.Hex.{encode_lower}
 use Rattle.device_types.specs.{declared.event.Event.TheVariants.{Rx, Pins, Dma, Reset}, Address.{Contents, Bytes}}
-use Rattle.device_trace.specs.{Example.{start_with, quiet_steps, event_after, arrivals, upwards, letter_a, no_image, key_reader, key_runner, attestation, attestation_of, request_part, return_through_key, return_into_rom, interrupted_call, ordinary_run, ordinary_request, guarded_region, reach_outside, overwrite, inner_entry, region_overlap, region_over_mac, echo, ticker, rewritten_program, store, kept_word, jump_into_rom}, Text.play_text, Play.Play}
+use Rattle.device_trace.specs.{Example.{start_with, quiet_steps, event_after, arrivals, upwards, letter_a, no_image, key_reader, key_runner, attestation, attestation_of, request_part, return_through_key, return_into_rom, interrupted_call, ordinary_run, ordinary_request, guarded_region, reach_outside, overwrite, inner_entry, region_overlap, region_over_mac, echo, ticker, rewritten_program, store, kept_word, jump_into_rom}, Text.play_text, Trace.Play}
 
 -- an image, its play, and what is printed
 pub record WorkedPlay : Type 0 where

@@ -2,7 +2,7 @@
 use Rattle.std.specs.Prelude.{◌≡◌, ℕ, false, List, [], ◌∷◌, map, replicate, Option, Some, None}
 use Rattle.word_arith.specs.declared.size.Size.TheVariants.{Word}
 use Rattle.device_types.specs.{declared.{access.Access.{Access, TheVariants.{Fetch, Read, Write}}, bus_record.BusRecord.BusRecord, event.Event.TheVariants.{Dma, Reset}, kind.Kind.TheVariants.Cpu, rule.Rule.{Rule, TheVariants.{X0, K1, K4}}}, Address.Contents}
-use Rattle.device_trace.specs.{Example.{start_with, quiet_steps, event_after, letter_a, key_reader, rewritten_program}, Trace.{last_record, trace}, Play.Play}
+use Rattle.device_trace.specs.{Example.{start_with, quiet_steps, event_after, letter_a, key_reader, rewritten_program}, Trace.{last_record, trace, Play}}
 
 -- an image, its play, and the last record
 pub record WorkedRecord : Type 0 where

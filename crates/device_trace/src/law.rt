@@ -1,5 +1,5 @@
 ghost use Rattle.std.specs.Prelude.{All};
-ghost use Rattle.device_trace.specs.{Start.Start, AccessesAreFormed.AccessesAreFormed, Trace.trace, Play.Play};
+ghost use Rattle.device_trace.specs.{Start.Start, AccessesAreFormed.AccessesAreFormed, Trace.{trace, Play}};
 
 /// In each record of each play a word access has an even address, and a byte write carries one
 /// byte.

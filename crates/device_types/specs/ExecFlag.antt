@@ -1,7 +1,21 @@
 -- The EXEC flag: a proof that the executable region ran from its first instruction on. (APEX.)
-use Rattle.std.specs.Prelude.{◌==◌, ◌&&◌, ◌||◌, ◌++◌, Bool, false, not, List, [], ◌∷◌, Option, Some, None, is_some, option_to_list, if◌then◌else◌}
-use Rattle.std.specs.List.{list_any}
-use Rattle.device_types.specs.{declared.{access.Access.{Access, TheVariants.Fetch}, region.Region.Region, bounds.Bounds.Bounds, bus_record.BusRecord.BusRecord}, Access.{is_write, some_writes}, SeenRecord.{SeenHistory, SeenRecord}, Kind.is_cpu, Map.{lies_in, touches, some_touches, is_within, metadata_region}, Bounds.{are_valid, executable_region, output_region}, Address.Address}
+use Rattle.std.specs.{Prelude.{◌==◌, ◌&&◌, ◌||◌, ◌++◌, Bool, false, not, List, [], ◌∷◌, Option, Some, None, is_some, option_to_list, if◌then◌else◌}, List.list_any}
+use Rattle.device_types.specs.{declared.{access.Access.{Access, TheVariants.Fetch}, region.Region.Region, bounds.Bounds.Bounds, bus_record.BusRecord.BusRecord}, Access.{is_write, some_writes}, Kind.is_cpu, Map.{lies_in, touches, some_touches, is_within, metadata_region}, Bounds.{are_valid, executable_region, output_region}, Address.Address}
+
+-- What a flag over the trace sees.
+
+-- a record, with the bounds as they stood before it
+pub record SeenRecord : Type 0 where
+  pub entry : BusRecord
+  pub bounds : Bounds
+
+-- what a flag saw, the newest record first
+abbrev pub SeenHistory : Type 0
+SeenHistory = List SeenRecord
+
+-- the flag that is never set
+abbrev pub no_flag : SeenHistory → Bool
+no_flag records = false
 
 abbrev pub accesses_in : BusRecord → List Access
 accesses_in entry = option_to_list entry.cpu ++ option_to_list entry.dma

@@ -1,6 +1,6 @@
 -- A flag over the trace.
 use Rattle.std.specs.Prelude.{◌≡◌, ◌∷◌, ◌&&◌, Bool, not, None, Option, is_none}
-use Rattle.device_types.specs.{declared.{bus_record.BusRecord.BusRecord, signals.Signals.Signals}, Access.without_number, Address.Address, SeenRecord.{SeenHistory, SeenRecord}, ExecFlag.{clears_both, enters_region}}
+use Rattle.device_types.specs.{declared.{bus_record.BusRecord.BusRecord, signals.Signals.Signals}, Access.without_number, Address.Address, ExecFlag.{SeenHistory, SeenRecord, clears_both, enters_region}}
 
 pub record Flag (G : Type 0) : Type 1 where
   -- what it is after these records, the newest first

@@ -2,7 +2,7 @@
 use Rattle.std.proofs.Common.{◌≡◌, ◌==◌, ◌&&◌, ◌||◌, ℕ, Bool, true, false, not, List, [], ◌∷◌, Option, sym, ◌∙◌, ap, refl, if◌then◌else◌}
 use Rattle.std.proofs.Math.Bool.{and-true, and-false, or_comm}
 use Rattle.std.specs.List.{list_any}
-use Rattle.device_types.specs.{SeenRecord.SeenRecord, Bounds.are_valid, ExecFlag.{starts_run, is_opcode_fetch, last_pc, records_since, is_set}}
+use Rattle.device_types.specs.{ExecFlag.{SeenRecord, starts_run, is_opcode_fetch, last_pc, records_since, is_set}, Bounds.are_valid}
 
 -- it is set where it was set before or the record starts a run, and the record does not clear it
 pub uncleared_run-cons : (clears : Option ℕ → SeenRecord → Bool) (now : SeenRecord)

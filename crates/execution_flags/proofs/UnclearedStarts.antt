@@ -1,7 +1,7 @@
 -- The flag is set exactly where there is an uncleared start: by induction on the records seen.
 use Rattle.std.proofs.Common.{◌≡◌, ◌≤◌, ◌+◌, ◌||◌, ◌++◌, ℕ, Bool, true, false, not, List, [], ◌∷◌, Option, length, IsTrue, ◌↔◌, sym, ◌∙◌, ap, inl, inr, refl, arith}
 use Rattle.std.proofs.lemmas.Bool.{and_parts, or_cases, and_from, or_left, or_right, not-true, not_from_false, false_from_ne_true, both_ways}
-use Rattle.device_types.specs.{SeenRecord.SeenRecord, ExecFlag.{starts_run, last_pc, is_set}}
+use Rattle.device_types.specs.ExecFlag.{SeenRecord, starts_run, last_pc, is_set}
 use Rattle.execution_flags.specs.UnclearedStart.{Moment, UnclearedStart}
 use Rattle.execution_flags.proofs.UnclearedRun.{uncleared_run-cons}
 

@@ -1,4 +1,2 @@
-pub mod ExecFlag
 pub mod RunFlag
 pub mod UnclearedStart
-pub mod AuxFlag

@@ -1,6 +1,6 @@
 -- When a flag is set, in the words of a trace.
 use Rattle.std.specs.Prelude.{◌≡◌, ◌≤◌, ◌++◌, Bool, List, ◌∷◌, Option, length, IsTrue}
-use Rattle.device_types.specs.{SeenRecord.{SeenHistory, SeenRecord}, Address.Address, ExecFlag.{starts_run, last_pc}}
+use Rattle.device_types.specs.{ExecFlag.{SeenHistory, SeenRecord, starts_run, last_pc}, Address.Address}
 
 -- one of these records, the newest first: those after it, itself, and those before it
 pub record Moment (records : SeenHistory) : Type 0 where

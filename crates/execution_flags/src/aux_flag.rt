@@ -13,7 +13,7 @@ pub type AuxFlag = RunFlag<AuxConditions>;
 pub struct AuxConditions;
 
 impl Conditions for AuxConditions {
-    ghost use Rattle.execution_flags.specs.AuxFlag.{aux-of_run};
+    ghost use Rattle.execution_flags.specs.RunFlag.{aux-of_run};
 
     ghost flag = { aux };
 

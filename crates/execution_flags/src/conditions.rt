@@ -3,7 +3,7 @@ use device_types::{Bounds, BusRecord, Signals};
 /// What clears a flag that a run sets.
 pub trait Conditions: Copy {
     ghost use Rattle.std.specs.Prelude.{◌≡◌, Bool, Option, true, false};
-    ghost use Rattle.device_types.specs.{declared.bus_record.BusRecord.BusRecord, Address.Address, SeenRecord.{SeenHistory, SeenRecord}, TraceFlag.{IsRecordOf, is_quiet}, ExecFlag.is_set};
+    ghost use Rattle.device_types.specs.{declared.bus_record.BusRecord.BusRecord, Address.Address, ExecFlag.{SeenHistory, SeenRecord, is_set}, TraceFlag.{IsRecordOf, is_quiet}};
 
     /// The flag, after the records seen.
     ghost flag: { SeenHistory → Bool };

@@ -14,7 +14,7 @@ pub type ExecFlag = RunFlag<ExecConditions>;
 pub struct ExecConditions;
 
 impl Conditions for ExecConditions {
-    ghost use Rattle.execution_flags.specs.ExecFlag.{exec-of_run};
+    ghost use Rattle.execution_flags.specs.RunFlag.{exec-of_run};
 
     ghost flag = { exec };
 

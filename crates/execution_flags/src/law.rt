@@ -1,5 +1,5 @@
 ghost use Rattle.std.specs.Prelude.{◌↔◌, List, IsTrue};
-ghost use Rattle.device_types.specs.SeenRecord.{SeenRecord};
+ghost use Rattle.device_types.specs.ExecFlag.{SeenRecord};
 ghost use Rattle.execution_flags.specs.UnclearedStart.{UnclearedStart};
 
 use crate::conditions::Conditions;

@@ -6,7 +6,7 @@ use Rattle.std.specs.Str.Lines.{lines}
 use Rattle.hex.specs.Hex.{IsBytes}
 use Rattle.text_scan.specs.{declared.{fault_at.FaultAt.FaultAt, fault_kind.FaultKind.FaultKind}, Hexadecimal.hex_bytes_of, Reader.value_or_fault}
 use Rattle.text_scan.proofs.HexBytes.{hex_bytes_of-ok}
-use Rattle.mem_map.specs.ByteAmong.{byte_among}
+use Rattle.mem_map.specs.Image.{byte_among}
 use Rattle.hex_loader.specs.{HexImage.{byte_placed, last_byte_placed, base_after, hex_byte, hex_fault, image_of}, HexRecord.{Meaning, Places, EndOfFile, SetsBase, Starts, with_count, record_of_type, record_of_bytes, record_or_fault, record_in, big_endian}}
 
 no_bytes : IsBytes []

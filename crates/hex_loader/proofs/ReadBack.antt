@@ -9,7 +9,7 @@ use mathlib.Core.List.{reverse_aux}
 use Rattle.hex.specs.Hex.{decode_pairs, encode_upper, IsBytes}
 use Rattle.part_definitions.specs.Memory.{is_image_place}
 use Rattle.hex_loader.specs.{HexRecord.{Places, EndOfFile, record_in}, HexImage.{base_after, has_ended, last_byte_placed, are_image_places, first_fault}, HexText.{is_record_start, record_bytes, data_line, line_at, lines_below, end_line, hex_text}, ReadBack.IsReadBack}
-use Rattle.mem_map.specs.{ByteAmong.byte_among, ImagePlace.IsImage}
+use Rattle.mem_map.specs.{Image.byte_among, ImagePlace.IsImage}
 use Rattle.hex_loader.proofs.{UpperDigits.{behind-encoded, behind-line, lines-behind}, RecordRead.{record_line, written_bytes, record_in-line, record_of_bytes-written, IsBytes-written}, Runs.{run-sound, run-short, run-bytes, run-places, byte_among-some, is_covered}}
 
 -- the line of the record that begins at a place, without its end

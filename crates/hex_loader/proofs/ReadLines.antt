@@ -3,8 +3,8 @@ use Rattle.std.proofs.Common.{◌≡◌, ◌∙◌, ◌+◌, ℕ, true, false, L
 use Rattle.std.specs.Str.Lines.{lines}
 use mathlib.Core.List.{reverse_aux}
 use Rattle.mem_map.specs.Image.{byte_in}
-use Rattle.text_scan.specs.{declared.{fault_at.FaultAt.FaultAt, fault_kind.FaultKind.{FaultKind, TheVariants.NoEnd}}, Line.numbered_lines}
-use Rattle.hex_loader.specs.{declared.reader.Reader.Reader, HexImage.{first_fault, line_fault, has_ended, hex_fault, hex_byte}, Reader.ReaderStandsFor}
+use Rattle.text_scan.specs.{declared.{fault_at.FaultAt.FaultAt, fault_kind.FaultKind.{FaultKind, TheVariants.NoEnd}}, LineFold.numbered_lines}
+use Rattle.hex_loader.specs.{declared.reader.Reader.Reader, HexImage.{first_fault, line_fault, has_ended, hex_fault, hex_byte, ReaderStandsFor}}
 
 -- the lines up to these were read, and have no fault
 pub record IsReadTo (text : List ℕ) (later : List (ℕ × List ℕ)) (count : ℕ) (reader : Reader) : Type

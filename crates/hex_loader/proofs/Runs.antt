@@ -5,7 +5,7 @@ use Rattle.std.proofs.lemmas.Bool.{and_from, cases_lt}
 use Rattle.std.proofs.lemmas.Bool.Decides.{eqb_tells}
 use Rattle.hex.specs.Hex.{IsBytes}
 use Rattle.part_definitions.specs.Memory.{is_image_place}
-use Rattle.mem_map.specs.{ByteAmong.byte_among, ImagePlace.IsImage}
+use Rattle.mem_map.specs.{Image.byte_among, ImagePlace.IsImage}
 use Rattle.hex_loader.specs.{HexImage.are_image_places, HexText.{is_record_start, run_after, byte_run, record_bytes}}
 
 -- a byte among those of a run is the image's

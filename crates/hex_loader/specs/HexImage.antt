@@ -1,11 +1,9 @@
 -- The image of an Intel HEX text, or its first fault. Lists of lines have the newest line first.
-use Rattle.std.specs.Prelude.{◌+◌, ◌&&◌, ◌||◌, ℕ, Bool, true, false, List, [], ◌∷◌, length, reverse, if◌then◌else◌, Option, Some, None, unwrap_or, Result, Ok, Err}
-use Rattle.std.specs.Option.{option_or}
-use Rattle.std.specs.Str.Lines.{lines}
+use Rattle.std.specs.{Prelude.{◌+◌, ◌&&◌, ◌||◌, ℕ, Bool, true, false, List, [], ◌∷◌, length, reverse, if◌then◌else◌, Option, Some, None, unwrap_or, Result, Ok, Err, ◌≡◌}, Option.option_or, Str.Lines.lines}
 use Rattle.text_scan.specs.{declared.{fault_at.FaultAt.FaultAt, fault_kind.FaultKind.{FaultKind, TheVariants.{AfterEnd, NoEnd, Place}}}, Reader.value_or_fault}
 use Rattle.part_definitions.specs.Memory.{is_image_place}
-use Rattle.mem_map.specs.ByteAmong.{byte_among}
-use Rattle.hex_loader.specs.HexRecord.{Meaning, Places, EndOfFile, SetsBase, record_in}
+use Rattle.mem_map.specs.Image.{byte_among, byte_in}
+use Rattle.hex_loader.specs.{HexRecord.{Meaning, Places, EndOfFile, SetsBase, record_in}, declared.reader.Reader.Reader}
 
 abbrev pub base_of : Result Meaning FaultKind → Option ℕ
 base_of (Ok (SetsBase base)) = Some base
@@ -77,3 +75,11 @@ hex_byte text = last_byte_placed (reverse (lines text))
 -- the bytes of its image by their places, or its first fault
 abbrev pub image_of : List ℕ → Result (ℕ → Option ℕ) FaultAt
 image_of text = value_or_fault (hex_fault text) (hex_byte text)
+
+-- What a reader in the midst of a text stands for.
+
+-- the reader has read these lines, newest first
+pub record ReaderStandsFor (reader : Reader) (lines : List (List ℕ)) : Type 0 where
+  pub bytes : (place : ℕ) → byte_in reader.image place ≡ last_byte_placed lines place
+  pub base : reader.base ≡ base_after lines
+  pub same_end : reader.has_ended ≡ has_ended lines

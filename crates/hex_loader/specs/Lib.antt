@@ -1,6 +1,5 @@
 pub mod HexRecord
 pub mod HexImage
-pub mod Reader
 pub mod HexText
 pub mod MemoryImage
 pub mod ReadBack

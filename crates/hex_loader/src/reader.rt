@@ -2,7 +2,7 @@ ghost use Rattle.std.specs.Prelude.{◌≡◌, ◌+◌, ◌∷◌, ◌==◌, ◌
 ghost use Rattle.std.specs.Option.{option_or};
 ghost use Rattle.std.specs.Result.{result_err};
 ghost use Rattle.part_definitions.specs.Memory.{is_image_place};
-ghost use Rattle.mem_map.specs.{Image.byte_in, ByteAmong.byte_among};
+ghost use Rattle.mem_map.specs.Image.{byte_in, byte_among};
 ghost use Rattle.text_scan.specs.{declared.fault_at.FaultAt.FaultAt, Reader.{Reads, value_as}};
 ghost use Rattle.hex_loader.specs.{HexRecord.{meaning, record_in}, HexImage.{image_of, are_image_places, base_after, has_ended, line_fault, hex_fault, hex_byte}};
 
@@ -93,7 +93,7 @@ pub struct Reader {
 impl Reader {
     ghost use Rattle.std.specs.Prelude.{◌≡◌, ◌∷◌, ℕ, List, Ok, OnOk};
     ghost use Rattle.std.specs.Result.{result_err};
-    ghost use Rattle.hex_loader.specs.{HexRecord.{meaning, record_in}, HexImage.{base_after, record_fault, line_fault}, Reader.ReaderStandsFor};
+    ghost use Rattle.hex_loader.specs.{HexRecord.{meaning, record_in}, HexImage.{base_after, record_fault, line_fault, ReaderStandsFor}};
 
     // Does what a record says.
     fn take(&mut self, item: HexRecord<'_>) -> Result<(), FaultKind>

@@ -3,7 +3,7 @@ use Rattle.std.proofs.Common.{◌≡◌, ◌<◌, ◌≤◌, ℕ, suc, List, Opt
 use Rattle.std.specs.Prelude.{IsSomeAnd}
 use Rattle.std.proofs.lemmas.Bool.{lt-ltb, le-ltb}
 use Rattle.std.proofs.lemmas.List.{length-replicate}
-use Rattle.outside_edge.specs.{Count.Rose, File.{file_of, HasFile, Finds}, Shelf.KeepsFiles, declared.file_fault.FileFault.FileFault}
+use Rattle.outside_edge.specs.{Calls.Rose, File.{file_of, HasFile, Finds}, Shelf.KeepsFiles, declared.file_fault.FileFault.FileFault}
 use Rattle.outside_edge.specs.declared.file_fault.FileFault.TheVariants as file
 use Rattle.text_scan.specs.{declared.{fault_at.FaultAt.FaultAt, fault_kind.FaultKind.TheVariants.TooLong}}
 use Rattle.input_files.specs.{declared.{refusal.Refusal.Refusal, status.Status.Status}, Row.{FileKind, RowOf, read_file, file_value}, Reading.{Files, Leaves, ParsesAs, Reaches, Reads, Refuses, first_refusal, refusal_of}}

@@ -2,7 +2,7 @@
 use Rattle.std.proofs.Common.{◌≡◌, ◌∙◌, ◌<◌, ◌++◌, ◌∷◌, ◌↔◌, [], ℕ, List, Option, Some, None, length, drop, ap, refl, arith}
 use Rattle.std.specs.Prelude.{IsSome, String, option_to_list}
 use Rattle.std.specs.declared.alloc.Global.{Global}
-use Rattle.input_files.specs.Argument.{texts}
+use Rattle.input_files.specs.CommandLine.{texts}
 
 no-words : (words : List (String Global)) (count : ℕ) → count ≡ length words → (0 < count → ⊥)
     → texts words ≡ drop 1 (texts words)

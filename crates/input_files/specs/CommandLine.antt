@@ -1,13 +1,11 @@
 -- What a program is given of its command line.
-use Rattle.std.specs.Prelude.{◌≡◌, ℕ, List, String, Vec, drop, Result, Ok, Err}
-use Rattle.std.specs.Vec.Iter.{into_iter_items}
-use Rattle.std.specs.IoError.{error_kind}
-use Rattle.std.specs.declared.alloc.Global.{Global}
-use Rattle.std.specs.declared.io.Error.{Error}
-use Rattle.std.specs.declared.io.ErrorKind.{ErrorKind}
-use Rattle.std.specs.declared.io.ErrorKind.TheVariants.{InvalidData}
-use Rattle.std.specs.declared.vec.IntoIter.{IntoIter}
-use Rattle.input_files.specs.{Argument.texts, declared.status.Status.{Status, TheVariants.{Words, Memory}}}
+use Rattle.std.specs.{Prelude.{◌≡◌, ℕ, List, String, Vec, drop, Result, Ok, Err, string_bytes, map}, Vec.Iter.into_iter_items, IoError.error_kind, declared.{alloc.Global.Global, io.{Error.Error, ErrorKind.{ErrorKind, TheVariants.InvalidData}}, vec.IntoIter.IntoIter}}
+use Rattle.input_files.specs.declared.status.Status.{Status, TheVariants.{Words, Memory}}
+
+-- The arguments of a command line.
+
+abbrev pub texts : List (String Global) → List (List ℕ)
+texts arguments = map string_bytes arguments
 
 -- its words, the first of which is the program's name; or the system's error where it has none
 abbrev pub CommandLine : Type 0

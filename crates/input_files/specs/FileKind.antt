@@ -4,8 +4,22 @@ use Rattle.hex_loader.specs.HexImage.{image_of}
 use Rattle.play_script.specs.{Grammar.script_of, Script.TimedEvent}
 use Rattle.report_verifier.specs.{Policy.PolicyFields, PolicyGrammar.policy_of}
 use Rattle.text_scan.specs.Key.{key_of}
+use Rattle.input_files.specs.Row.{FileKind}
 use Rattle.input_files.specs.declared.bad_file.BadFile.TheVariants as bad
-use Rattle.input_files.specs.{Limit.{key_limit, policy_limit, text_limit}, Row.FileKind}
+
+-- The limits of files that several commands read. Sizes are in bytes.
+
+-- the longest file of a key
+abbrev pub key_limit : ℕ
+key_limit = 256
+
+-- the longest file of a policy
+abbrev pub policy_limit : ℕ
+policy_limit = 65536
+
+-- the longest file of an image, of a script, of a source and of reports
+abbrev pub text_limit : ℕ
+text_limit = 1048576
 
 -- an image gives the byte at each place that has one
 abbrev pub image_kind : FileKind (ℕ → Option ℕ)

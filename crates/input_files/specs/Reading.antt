@@ -1,6 +1,6 @@
 -- What the reading of a row's files gives.
 use Rattle.std.specs.Prelude.{◌≡◌, ◌⊎◌, ℕ, List, Option, Some, None, IfSome, Result, Ok, Err, IfOk, IfErr, option_map, unwrap_or}
-use Rattle.outside_edge.specs.{Count.Rose, File.{file_of, Finds}, Shelf.KeepsFiles, declared.file_fault.FileFault.FileFault}
+use Rattle.outside_edge.specs.{Calls.Rose, File.{file_of, Finds}, Shelf.KeepsFiles, declared.file_fault.FileFault.FileFault}
 use Rattle.outside_edge.specs.declared.file_fault.FileFault.TheVariants as file
 use Rattle.outside_edge.specs.declared.shelf.Shelf as shelves
 use Rattle.text_scan.specs.{declared.{fault_at.FaultAt.FaultAt, fault_kind.FaultKind.TheVariants.TooLong}}

@@ -13,7 +13,7 @@ pub struct OwnTexts<'a> {
 
 impl<'a> OwnTexts<'a> {
     ghost use Rattle.std.specs.Prelude.{option_map};
-    ghost use Rattle.input_files.specs.{Argument.texts, Program.own_text_of};
+    ghost use Rattle.input_files.specs.{CommandLine.texts, Program.own_text_of};
 
     /// The text that `--help` or `--version` asks for, where it stands alone.
     pub fn asked_for(&self, arguments: &[String]) -> Option<&'a str>

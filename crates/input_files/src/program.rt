@@ -13,7 +13,7 @@ use std::process::ExitCode;
 /// A program, as it runs the arguments that ask for no text of its own.
 pub trait Program {
     ghost use Rattle.std.specs.Prelude.{ℕ, List};
-    ghost use Rattle.input_files.specs.{Argument.texts, declared.status.Status.Status};
+    ghost use Rattle.input_files.specs.{CommandLine.texts, declared.status.Status.Status};
 
     /// It may answer these arguments so.
     ghost may_answer: { Self → List (List ℕ) → Status → Type 0 };

@@ -2,7 +2,7 @@
 use Rattle.std.proofs.Common.{arith, ◌≡◌, ℕ, Bool, true, false, List, [], ◌∷◌, Option, map, refl, ap, ◌∙◌}
 use Rattle.std.specs.Prelude.{if◌then◌else◌}
 use Rattle.std.proofs.lemmas.Bool.Decides.{nat_tests}
-use Rattle.device_types.specs.{declared.{access.Access.Access, bus_record.BusRecord.BusRecord}, SeenRecord.SeenRecord, ExecFlag.{clears, exec}}
+use Rattle.device_types.specs.{declared.{access.Access.Access, bus_record.BusRecord.BusRecord}, ExecFlag.{SeenRecord, clears, exec}}
 use Rattle.device_trace.specs.{Blank.{blank_access, blank_record, blank_seen, blank_value}, Logs.{goes_on_in_call, records_until_call}}
 use Rattle.key_isolation.proofs.SameFlag.{exec-same}
 use Rattle.trace_facts.proofs.BlankRecords.{last_pc-blank, starts_run-blank}

@@ -1,7 +1,7 @@
 -- The isolation of the key, by induction on the play.
 use Rattle.std.proofs.Common.{◌≡◌, ℕ, List, [], ◌∷◌, ◌++◌, refl, ap, sym, ◌∙◌, append_assoc}
 use Rattle.device_types.specs.declared.event.Event.{Event}
-use Rattle.device_trace.specs.{Play.Play, Blank.blank, Logs.{Logs, with_events, with_record}, Start.Start, Step.next_record, Trace.{next_logs, logs_after, trace}}
+use Rattle.device_trace.specs.{Trace.{Play, next_logs, logs_after, trace}, Blank.blank, Logs.{Logs, with_events, with_record}, Start.Start, Step.next_record}
 use Rattle.trace_facts.proofs.SoundPlay.{logs_after-sound}
 use Rattle.key_isolation.proofs.{Hiding.{open_start, hide}, LogsBlank.step_hides, Projections.released_words_after-more}
 

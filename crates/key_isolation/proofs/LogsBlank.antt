@@ -2,7 +2,7 @@
 use Rattle.std.proofs.Common.{◌≡◌, ℕ, Bool, List, ◌∷◌, ◌++◌, Option, Some, None, map, refl, ap, ◌∙◌}
 use Rattle.device_types.specs.{declared.{access.Access.Access, bus_record.BusRecord.BusRecord, event.Event.Event, rule.Rule.Rule}, ExecFlag.last_pc}
 use Rattle.part_definitions.specs.FirstRule.{first_rule}
-use Rattle.device_trace.specs.{Blank.{blank_access, blank_value, blank_record, blank_seen}, AccessesAreFormed.AccessesAreFormed, Level.level_after, Logs.{Logs, step_progress, peripherals_after, progress_after, released_words_after, with_events, with_record}, Progress.{Progress, last_registers, next_progress}, Signals.{value_read, step_kind, proposed_access, signals_at, signals_of}, Start.Start, Step.{access_recorded, dma_value_read, record_from, record_of, asks_reset, next_record}, Trace.next_logs}
+use Rattle.device_trace.specs.{Blank.{blank_access, blank_value, blank_record, blank_seen}, AccessesAreFormed.AccessesAreFormed, Progress.{level_after, Progress, last_registers, next_progress}, Logs.{Logs, step_progress, peripherals_after, progress_after, released_words_after, with_events, with_record}, Signals.{value_read, step_kind, proposed_access, signals_at, signals_of}, Start.Start, Step.{access_recorded, dma_value_read, record_from, record_of, asks_reset, next_record}, Trace.next_logs}
 use Rattle.device_trace.proofs.FormedAccess.{record_of-formed}
 use Rattle.trace_facts.proofs.Sound.{IsSound}
 use Rattle.key_isolation.proofs.{Hiding.{open_start, hide_progress, hide, vector_of-hide, step_progress-hide, vector_taken-hide, logged_bounds-hide, level_after-hide, decision_after-hide}, WrittenBytes.memory_after-hide, Projections.{with_step-blank, released_words_after-blank}, RecordBlank.{SameWithoutRule, unrefused_same, record_of-hide}}

@@ -2,7 +2,7 @@
 use Rattle.std.proofs.Common.{◌≡◌, ℕ, Bool, true, false, List, [], ◌∷◌, Option, map, refl, ap, ◌∙◌}
 use Rattle.std.specs.Prelude.{◌||◌, if◌then◌else◌}
 use Rattle.std.specs.List.{list_any}
-use Rattle.device_types.specs.{SeenRecord.SeenRecord, ExecFlag.{clears, starts_run, last_pc, records_since, exec}}
+use Rattle.device_types.specs.ExecFlag.{SeenRecord, clears, starts_run, last_pc, records_since, exec}
 
 -- one record more, where the test of it is the same
 goes_on : (change : SeenRecord → SeenRecord) (test : Bool) (now : SeenRecord)

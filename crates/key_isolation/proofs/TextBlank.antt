@@ -6,7 +6,7 @@ use Rattle.device_types.specs.{declared.{bounds.Bounds.Bounds, bus_record.BusRec
 use Rattle.device_types.proofs.ValidRange.{IsValidRange, are_valid-ranges}
 use Rattle.part_definitions.specs.{Memory.bytes_from, Metadata.little_endian, Region.output_bytes, Request.ATTESTS}
 use Rattle.printed_lines.specs.Line.{end_line, sent_line, reset_line, report_line, denied_line}
-use Rattle.device_trace.specs.{Play.Play, Blank.{is_secret, SameOutside, blank_record}, Logs.{Logs, logged_byte, logged_bounds}, Start.Start, Step.next_record, Text.{reported_output, report_of, report_where, denial_in, some_line, step_lines, lines_of, end_line_after, play_text}, Trace.{next_logs, logs_after}}
+use Rattle.device_trace.specs.{Trace.{Play, next_logs, logs_after}, Blank.{is_secret, SameOutside, blank_record}, Logs.{Logs, logged_byte, logged_bounds}, Start.Start, Step.next_record, Text.{reported_output, report_of, report_where, denial_in, some_line, step_lines, lines_of, end_line_after, play_text}}
 use Rattle.trace_facts.proofs.SoundPlay.{logs_after-sound}
 use Rattle.key_isolation.proofs.{Bytes.same_if, FlagBlank.exec-blank, Hiding.{open_start, hide, next_pc_of-hide, flags_of-hide, logged_byte-hide, logged_bounds-hide}, Induction.{play_hides, releases_before}, LogsBlank.step_hides, Projections.byte_sent_by-blank}
 

@@ -1,8 +1,8 @@
 -- A play without its key, and two keys whose released words agree.
 use Rattle.std.proofs.Common.{◌≡◌, ℕ, suc, List, [], ◌∷◌, ◌++◌, refl, ap, sym, ◌∙◌, arith, append-nil, subst}
 use Rattle.device_types.specs.declared.bus_record.BusRecord.{BusRecord}
-use Rattle.device_trace.specs.{Play.Play, Blank.{SameOutside, blank}, Logs.{Logs, logged_byte}, Start.{Start, without_key}, Trace.{byte_after, logs_after, released_words, trace}}
-use Rattle.key_isolation.specs.{Agreement.{Agree, ReleaseAlike, SameButKey}, Keyless.{LooksAlike, LooksKeyless, keyless}}
+use Rattle.device_trace.specs.{Trace.{Play, byte_after, logs_after, released_words, trace}, Blank.{SameOutside, blank}, Logs.{Logs, logged_byte}, Start.{Start, without_key}}
+use Rattle.key_isolation.specs.Keyless.{Agree, ReleaseAlike, SameButKey, LooksAlike, LooksKeyless, keyless}
 use Rattle.key_isolation.proofs.{FlagBlank.blank_record-twice, Hiding.{open_start, logged_byte-hide}, Induction.play_hides, TextBlank.play_text-hide}
 
 -- lists that agree are both beginnings of one list

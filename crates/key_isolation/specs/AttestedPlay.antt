@@ -1,7 +1,7 @@
 -- A play that attests under SHA-256. Its numbers were computed by another program (HMAC of Python's
 -- library).
 use Rattle.std.specs.Prelude.{◌++◌, List, [], ◌∷◌, codes}
-use Rattle.word_arith.specs.Word16.{Word16}
+use Rattle.word_arith.specs.Number.{Word16}
 use Rattle.sha2.specs.Sha256.{sha256}
 use Rattle.device_types.specs.{Address.{Bytes, Contents}, Map.COUNTER}
 use Rattle.part_definitions.specs.TrustedFlag.{aux}

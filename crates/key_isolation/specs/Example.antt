@@ -1,7 +1,7 @@
 -- Closed plays at which the laws are computed.
 use Rattle.std.specs.Prelude.{ℕ, List, [], ◌∷◌}
-use Rattle.device_types.specs.{declared.bus_record.BusRecord.BusRecord, SeenRecord.no_flag}
-use Rattle.device_trace.specs.{Example.{counting_digest, upwards, quiet_steps, attestation}, Start.{Start, with_key}, Play.Play}
+use Rattle.device_types.specs.{declared.bus_record.BusRecord.BusRecord, ExecFlag.no_flag}
+use Rattle.device_trace.specs.{Example.{counting_digest, upwards, quiet_steps, attestation}, Start.{Start, with_key}, Trace.Play}
 
 -- a device with the key from this byte upwards, and the program that attests
 abbrev pub attestation_start : ℕ → Start

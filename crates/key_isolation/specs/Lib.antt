@@ -1,4 +1,3 @@
-pub mod Agreement
 pub mod AttestedPlay
 pub mod Example
 pub mod Keyless

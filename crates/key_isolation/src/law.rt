@@ -1,8 +1,8 @@
 ghost use Rattle.std.specs.Prelude.{◌≡◌, ◌++◌, Bool, List};
-ghost use Rattle.device_types.specs.{SeenRecord.SeenHistory, Address.{Contents, Bytes}};
-ghost use Rattle.device_trace.specs.{Blank.blank, Start.{Start, with_key}, Trace.{open_trace, released_words, trace}, Play.Play};
-ghost use Rattle.key_isolation.specs.{Agreement.{ReleaseAlike, SameButKey}, Keyless.{LooksAlike, LooksKeyless, keyless}};
-ghost use Rattle.word_arith.specs.Word16.{Word16};
+ghost use Rattle.device_types.specs.{ExecFlag.SeenHistory, Address.{Contents, Bytes}};
+ghost use Rattle.device_trace.specs.{Blank.blank, Start.{Start, with_key}, Trace.{open_trace, released_words, trace, Play}};
+ghost use Rattle.key_isolation.specs.Keyless.{ReleaseAlike, SameButKey, LooksAlike, LooksKeyless, keyless};
+ghost use Rattle.word_arith.specs.Number.{Word16};
 ghost use Rattle.part_definitions.specs.Hmac.{Digest};
 
 /// For every second flag, digest, key, image and play: the trace, with what stands in the key and

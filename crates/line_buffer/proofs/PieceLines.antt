@@ -6,7 +6,7 @@ use Rattle.std.specs.Str.{IsAscii}
 use Rattle.std.specs.Str.Lines.{lines}
 use Rattle.std.proofs.lemmas.Str.{IsUtf8-append, IsUtf8-from_ascii}
 use Rattle.std.proofs.lemmas.Str.Ascii.{IsAscii-nil, IsAscii-cons}
-use Rattle.named_value.specs.PlainWord.{IsPlainWord}
+use Rattle.named_value.specs.Names.{IsPlainWord}
 use Rattle.printed_lines.specs.Line.{flag_digit, byte_digits, word_digits, with_pieces, line_of}
 use Rattle.text_scan.specs.Word.{words_of}
 use Rattle.text_scan.proofs.{FirstLine.lines-line, PlainWords.{ArePlain, words_of-join, printed-join, printed_bounds, printed-ascii, plain-encoded, one_byte, two_bytes}}

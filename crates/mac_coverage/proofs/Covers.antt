@@ -6,8 +6,8 @@ use Rattle.std.proofs.lemmas.List.{take-append-drop}
 use Rattle.std.proofs.lemmas.List.FromFn.{take-map-range_with_len}
 use Rattle.device_types.specs.{declared.{bus_record.BusRecord.BusRecord, event.Event.Event, rule.Rule.Rule}}
 use Rattle.part_definitions.specs.{Attestation.word_of_bytes, Request.ATTESTS}
-use Rattle.device_trace.specs.{Play.Play, Logs.{decision_after, call_decision, finishes_call, released_words_after}, Progress.Progress, Text.last_decision, Trace.{byte_after, trace}}
-use Rattle.mac_coverage.specs.{AttestedBytes.call_words, Call.{ends_finished, last_call}, Coverage.MacCoversCall}
+use Rattle.device_trace.specs.{Trace.{Play, byte_after, trace}, Logs.{decision_after, call_decision, finishes_call, released_words_after}, Progress.Progress, Text.last_decision}
+use Rattle.mac_coverage.specs.{AttestedBytes.call_words, Coverage.{ends_finished, last_call, MacCoversCall}}
 use Rattle.mac_coverage.proofs.{Calls.{CallSoFar, before-last, earlier_records, entry_at}, Device.start_of, MacStored.{MacStands, mac-is}, Passes.{decision_words, mac_count, words_written}, WordPlan.{Plan, first_mac_words, planned_decision, planned_region, planned_tag}, Words.are_bytes}
 
 -- the words of the MAC that are written, and the others

@@ -4,7 +4,7 @@ use Rattle.std.specs.Prelude.{Bool, nat_le, slice_index}
 use Rattle.std.proofs.lemmas.Bool.{and_right, cond-true, cond-false, lt-leb}
 use Rattle.std.proofs.lemmas.Bool.Decides.{nat_tests}
 use Rattle.word_arith.specs.declared.size.Size.TheVariants.{Word}
-use Rattle.device_types.specs.{Map.{lies_in, key_region, peripheral_region}, SeenRecord.SeenRecord}
+use Rattle.device_types.specs.{Map.{lies_in, key_region, peripheral_region}, ExecFlag.SeenRecord}
 use Rattle.part_definitions.specs.{BusAccess.read_at, Attestation.word_of_bytes, Memory.takes_write}
 use Rattle.device_trace.specs.{Logs.{Logs, logged_byte}, Signals.{number_read, value_read}, Start.{Start, with_key}}
 use Rattle.mac_coverage.proofs.{MemoryBytes.PowerOnBytes, Words.AreBytes}

@@ -5,7 +5,7 @@ use Rattle.std.proofs.lemmas.Bool.{cond_both}
 use Rattle.word_arith.specs.declared.size.Size.TheVariants.{Byte, Word}
 use Rattle.device_types.specs.{declared.{access.Access.{Access, TheVariants.{Fetch, Read, Write}}, rule.Rule.Rule}, Map.{lies_in, key_region, rom_region, AUX_WORD, EXEC_WORD, ROM_EXIT}}
 use Rattle.part_definitions.specs.Memory.{MemoryWrite, PowerOn, ShownFlags, first_byte, fixed_byte, is_image_place, last_written, rom_byte, takes_write, with_access}
-use Rattle.device_trace.specs.{Play.Play, Logs.{flags_of, logged_byte, memory_after, with_events, with_record}, Start.Start, Step.next_record, Trace.logs_after}
+use Rattle.device_trace.specs.{Trace.{Play, logs_after}, Logs.{flags_of, logged_byte, memory_after, with_events, with_record}, Start.Start, Step.next_record}
 
 -- key and image are of bytes
 pub record PowerOnBytes (power : PowerOn) : Type 0 where

@@ -6,9 +6,9 @@ use Rattle.std.proofs.lemmas.List.{length_push}
 use Rattle.device_types.specs.{declared.{bus_record.BusRecord.BusRecord, event.Event.Event, kind.Kind.TheVariants.Rom, rule.Rule.Rule}, Kind.is_rom, Map.{ROM_ENTRY, ROM_EXIT}}
 use Rattle.part_definitions.specs.{Attestation.{CallItem, KeptWrite, bounds_read, call_item, decision_read, is_return, item_access, region_words}, CpuRegister.sp_of}
 use Rattle.part_definitions.proofs.CallItems.{first_pc, item_after}
-use Rattle.device_trace.specs.{Play.Play, Logs.{Logs, call_decision, finishes_call, progress_after, step_progress, vector_of, with_events, with_record}, Progress.{Progress, InCall, after_return}, Signals.step_kind, Text.last_decision, Trace.{logs_after, trace}}
+use Rattle.device_trace.specs.{Trace.{Play, logs_after, trace}, Logs.{Logs, call_decision, finishes_call, progress_after, step_progress, vector_of, with_events, with_record}, Progress.{Progress, InCall, after_return}, Signals.step_kind, Text.last_decision}
 use Rattle.trace_facts.proofs.Choices.{none_there}
-use Rattle.mac_coverage.specs.{AttestedBytes.AttestedBytes, Call.{begins_call, ends_refused, last_call, mac_written}, Coverage.{MacCoversCall, attested_after, kept_after}}
+use Rattle.mac_coverage.specs.{AttestedBytes.AttestedBytes, Coverage.{begins_call, ends_refused, last_call, mac_written, MacCoversCall, attested_after, kept_after}}
 use Rattle.mac_coverage.proofs.{CallItems.{exit_returns, high_word_item, only_first_enters}, Calls.{CallGoes, CallSoFar, call-goes_on, call-returns, earlier_records, entry_at, log_at, return-is_last, word_in}, Covers.{covers_refused, covers_so_far}, Device.{Device, start_of}, PlaySteps.{CallGoesOn, IsTurnOfCall, LastWroteHighWord, PlayStands, WritesHighWord, all_earlier, after_step-alike, after_step-same, entry-kind, entry-pc, entry-step, first_step, last-in_rom, later_step, none_earlier, plan_of}, Passes.{decision_words, mac_count, words_written}, WordPlan.{ArePlanned, Plan, call_item-planned, decision_read-planned, first_mac_words, planned_decision, planned_region}, Steps.{IsCallStep, IsOfCall, OnCall, progress-call_step, rom_step-of_call}}
 
 -- the MAC covers the call, and if it goes on, it is one so far

@@ -2,10 +2,10 @@
 use Rattle.std.proofs.Common.{◌≡◌, ℕ, ◌<◌, Bool, true, false, List, [], ◌∷◌, inl, inr, Option, Some, None, length, refl, ap, sym, ◌∙◌, arith}
 use Rattle.std.specs.Prelude.{◌==◌, ◌&&◌, is_none, is_some, IsTrue}
 use Rattle.std.proofs.lemmas.Bool.{and_parts, cases_Bool}
-use Rattle.device_types.specs.{declared.{bus_record.BusRecord.BusRecord, kind.Kind.{Kind, TheVariants.{Boot, Cpu, Idle, Irq, Rom}}, rule.Rule.Rule, access.Access.Access}, Kind.is_rom, Map.ROM_EXIT, Report.ReportFields, SeenRecord.SeenHistory, Address.{Bytes, Contents}}
+use Rattle.device_types.specs.{declared.{bus_record.BusRecord.BusRecord, kind.Kind.{Kind, TheVariants.{Boot, Cpu, Idle, Irq, Rom}}, rule.Rule.Rule, access.Access.Access}, Kind.is_rom, Map.ROM_EXIT, Report.ReportFields, ExecFlag.SeenHistory, Address.{Bytes, Contents}}
 use Rattle.part_definitions.specs.{Metadata.{counter_bytes, little_endian}, Region.mac_bytes, Request.ATTESTS, Hmac.Digest}
-use Rattle.device_trace.specs.{Play.Play, Logs.{Logs, progress_after, step_progress, vector_of, with_events, with_record}, Signals.{step_kind, signals_at}, Start.{Start, with_key}, Step.{next_record, record_of, asks_reset}, Text.{last_decision, last_report}, Trace.{byte_after, logs_after, trace}, Progress.Progress}
-use Rattle.mac_coverage.specs.{AttestedBytes.tag_of, Call.{ends_finished, ends_in_call, ends_refused, last_call}, Coverage.{Gives32Bytes, IsDeviceKey, IsOfBytes, MacCoversCall, MacCoversReport, attested_after}}
+use Rattle.device_trace.specs.{Trace.{Play, byte_after, logs_after, trace}, Logs.{Logs, progress_after, step_progress, vector_of, with_events, with_record}, Signals.{step_kind, signals_at}, Start.{Start, with_key}, Step.{next_record, record_of, asks_reset}, Text.{last_decision, last_report}, Progress.Progress}
+use Rattle.mac_coverage.specs.{AttestedBytes.tag_of, Coverage.{ends_finished, ends_in_call, ends_refused, last_call, Gives32Bytes, IsDeviceKey, IsOfBytes, MacCoversCall, MacCoversReport, attested_after}}
 use Rattle.mac_coverage.proofs.{Covers.decision_after-finishes, Device.{Device, start_of}, Outcomes.{Outcome, rom_outcome}, Calls.{entry_at, log_at}, PlaySteps.{CallGoesOn, PlayStands, entry-kind}, Steps.{OnCall, other_step-no_call}, Words.are_bytes}
 use Rattle.trace_facts.proofs.LastReport.{last_report-made}
 

@@ -1,11 +1,41 @@
 -- The MAC covers what stands in memory throughout the call that writes it, and the call attests by
 -- the token and the counters that stand there.
-use Rattle.std.specs.Prelude.{◌≡◌, ◌<◌, ◌≤◌, ◌+◌, ◌++◌, ℕ, All, List, [], IsTrue, Some, length, take, drop, nat_lt, if◌then◌else◌}
-use Rattle.word_arith.specs.Word16.{Word16}
-use Rattle.device_types.specs.{Report.ReportFields, Address.{Contents, Bytes, Address}}
+use Rattle.std.specs.Prelude.{◌≡◌, ◌<◌, ◌≤◌, ◌+◌, ◌++◌, ℕ, All, List, [], IsTrue, Some, length, take, drop, nat_lt, if◌then◌else◌, ◌==◌, ◌&&◌, Bool, false, ◌∷◌, is_some}
+use Rattle.word_arith.specs.Number.{Word16}
+use Rattle.device_types.specs.{Report.ReportFields, Address.{Contents, Bytes, Address}, declared.bus_record.BusRecord.BusRecord, Kind.is_rom, Map.ROM_ENTRY}
 use Rattle.part_definitions.specs.{Attestation.REQUEST_WORDS, Metadata.kept_bytes, Region.mac_bytes, Request.ATTESTS, Hmac.Digest}
-use Rattle.device_trace.specs.{Start.Start, Text.last_decision, Trace.{trace, byte_after}, Play.Play}
-use Rattle.mac_coverage.specs.{AttestedBytes.{AttestedBytes, attested_bytes_in, without_flag_words, tag_of, decision_of, call_words, counter_left}, Call.{last_call, mac_written, ends_in_call, ends_refused, ends_finished}}
+use Rattle.device_trace.specs.{Start.Start, Text.last_decision, Trace.{trace, byte_after, Play}, Logs.{finishes_call, released_words_after}}
+use Rattle.mac_coverage.specs.AttestedBytes.{AttestedBytes, attested_bytes_in, without_flag_words, tag_of, decision_of, call_words, counter_left}
+
+-- The last call of a history, which has the newest record first.
+
+-- a call begins with its access at the ROM's entry
+abbrev pub begins_call : BusRecord → Bool
+begins_call entry = is_rom entry.kind && (entry.pc == ROM_ENTRY)
+
+-- the records back to the one that begins the last call
+abbrev pub last_call : List BusRecord → List BusRecord
+last_call [] = []
+last_call (entry ∷ history) = entry ∷ (if begins_call entry then [] else last_call history)
+
+-- the words that records wrote to the MAC, oldest first; a refused one writes nothing
+abbrev pub mac_written : List BusRecord → List Word16
+mac_written [] = []
+mac_written (entry ∷ older) =
+    released_words_after entry.reset entry.kind entry.cpu (mac_written older)
+
+-- the last record is one of a call
+abbrev pub ends_in_call : List BusRecord → Bool
+ends_in_call [] = false
+ends_in_call (entry ∷ history) = is_rom entry.kind
+
+abbrev pub ends_refused : List BusRecord → Bool
+ends_refused [] = false
+ends_refused (entry ∷ history) = is_some entry.reset
+
+abbrev pub ends_finished : List BusRecord → Bool
+ends_finished [] = false
+ends_finished (entry ∷ history) = finishes_call entry
 
 -- 64 bytes
 pub record IsDeviceKey (key : Bytes) : Type 0 where

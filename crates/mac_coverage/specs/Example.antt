@@ -1,9 +1,9 @@
 -- Closed plays at which the law is computed.
 use Rattle.std.specs.Prelude.{ℕ, List, [], ◌∷◌, length, take}
-use Rattle.word_arith.specs.Word16.{Word16}
+use Rattle.word_arith.specs.Number.{Word16}
 use Rattle.device_types.specs.{declared.event.Event.TheVariants.Reset, Map.EXEC_WORD, Address.{Contents, Bytes}}
-use Rattle.device_trace.specs.{Example.{counting_words, event_after, quiet_steps, start_with}, Trace.{trace, byte_after}, Play.Play}
-use Rattle.mac_coverage.specs.{Call.{last_call, mac_written}, Coverage.{attested_after, kept_after}}
+use Rattle.device_trace.specs.{Example.{counting_words, event_after, quiet_steps, start_with}, Trace.{trace, byte_after, Play}}
+use Rattle.mac_coverage.specs.Coverage.{last_call, mac_written, attested_after, kept_after}
 
 -- the call of `attestation` begins after 7 steps; in its step 124 it is broken off by a reset
 abbrev pub broken_call : Play

@@ -1,4 +1,3 @@
 pub mod AttestedBytes
-pub mod Call
 pub mod Coverage
 pub mod Example

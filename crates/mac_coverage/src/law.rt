@@ -1,6 +1,6 @@
 ghost use Rattle.std.specs.Prelude.{◌≡◌, Bool, Some};
-ghost use Rattle.device_types.specs.{Report.ReportFields, SeenRecord.SeenHistory, Address.{Contents, Bytes}};
-ghost use Rattle.device_trace.specs.{Report.EachReport, Start.with_key, Text.last_report, Play.Play};
+ghost use Rattle.device_types.specs.{Report.ReportFields, ExecFlag.SeenHistory, Address.{Contents, Bytes}};
+ghost use Rattle.device_trace.specs.{Report.EachReport, Start.with_key, Text.last_report, Trace.Play};
 ghost use Rattle.mac_coverage.specs.{AttestedBytes.tag_of, Coverage.{Gives32Bytes, IsDeviceKey, IsOfBytes, MacCoversLastCall, MacCoversReport, attested_after}};
 ghost use Rattle.part_definitions.specs.Hmac.{Digest};
 

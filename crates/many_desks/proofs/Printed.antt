@@ -9,7 +9,7 @@ use Rattle.std.proofs.lemmas.Bool.{cases_Bool}
 use Rattle.std.proofs.lemmas.List.Elements.{All-from_recursion}
 use Rattle.std.proofs.lemmas.Slice.Eq.{bytes_eq-Decides}
 use Rattle.desk_memory.specs.{DeviceState.is_new, Entry.{Entry, Home, Note, entry_at, home_of, is_replaced, last_in, with_entries, with_entry}, Moving.{with_arrivals, entries_on_arrival, at_home, with_departure, entries_of, gone_to, is_here, is_needed, moved_lines, with_gone}}
-use Rattle.verifier_desk.specs.{DeskLine.{DeskLine, TooLong, Silent, Foreign, Own, desk_line_of}, DeviceKey.key_named, DeviceLine.DeviceLine, Law.judged_lines, Noted.{entries_after, note_at, noted_of, with_noted}, Replies.{DeskFields, lines_said, state_at}, Run.Run}
+use Rattle.verifier_desk.specs.{DeskLine.{DeskLine, TooLong, Silent, Foreign, Own, desk_line_of, DeviceLine}, DeviceKey.key_named, Law.judged_lines, Noted.{entries_after, note_at, noted_of, with_noted}, Replies.{DeskFields, lines_said, state_at}, Run.Run}
 use Rattle.verifier_desk.proofs.Remembered.{IsKnown, line_known, memory_has_states}
 use Rattle.many_desks.specs.{Act.{Act, Adopts, IsAllowed, IsMove, MayServe, Sends, Serves, WasMoved, World, desk_of, entries_by, world_after}, Possible.IsPrintedAgain}
 use Rattle.desk_memory.proofs.Noted.{last_named}

@@ -3,7 +3,7 @@
 use Rattle.std.specs.Prelude.{◌≡◌, ◌⊎◌, ℕ, true, List, [], ◌∷◌, if◌then◌else◌, All, Option, None}
 use Rattle.std.specs.Str.{bytes_eq}
 use Rattle.desk_memory.specs.{Entry.{Entry, last_in, owner_in}, Moving.{with_arrivals, adoption_fault, with_departure, entries_of, has_here, moved_lines}}
-use Rattle.verifier_desk.specs.{Gone.first_gone, KeyOwner.KeysStandApart, Noted.entries_after, Run.Run}
+use Rattle.verifier_desk.specs.{DeviceKey.first_gone, KeyOwner.KeysStandApart, Noted.entries_after, Run.Run}
 
 -- the entries that the memory of each desk has, by the desk's name
 abbrev pub World : Type 0

@@ -1,7 +1,7 @@
 -- What an operator may do: by this each premise of the laws can be met.
 use Rattle.std.specs.Prelude.{◌≡◌, ◌⊎◌, ℕ, List, ◌∷◌, Some, None}
 use Rattle.desk_memory.specs.{Entry.{Entry, last_in, owner_in}, Moving.{with_departure, moved_lines}}
-use Rattle.verifier_desk.specs.{DeviceKey.{DeviceKey, key_named}, Gone.first_gone, KeyOwner.KeysStandApart, Replies.mark_at, Run.Run}
+use Rattle.verifier_desk.specs.{DeviceKey.{DeviceKey, key_named, first_gone}, KeyOwner.KeysStandApart, Replies.mark_at, Run.Run}
 use Rattle.many_desks.specs.{Act.{Act, Adopts, AreAllowed, IsAllowed, MayServe, Sends, WasMoved, World, world_after}, Keys.KeysAreSound, Law.StartsAt}
 
 -- A device and its key that a memory does not know are known to no other memory.

@@ -2,7 +2,7 @@
 use Rattle.std.proofs.Common.{◌≡◌, ◌<◌, ◌+◌, ℕ, suc, length, drop, get_or, drop-cons, add-one, ap, cond, eqb, List, [], ◌∷◌, Option, Some, None, refl, arith, inl, inr}
 use Rattle.std.specs.Option.{option_or}
 use Rattle.std.proofs.lemmas.Bool.Decides.{eqb_tells}
-use Rattle.mem_map.specs.ByteAmong.{byte_among}
+use Rattle.mem_map.specs.Image.{byte_among}
 
 -- there is none below the first
 pub byte_among-below : (first : ℕ) (bytes : List ℕ) (place : ℕ) → place < first

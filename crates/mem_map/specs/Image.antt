@@ -1,5 +1,5 @@
 -- An image as a finite map.
-use Rattle.std.specs.Prelude.{ℕ, Option, None, List, slice_index, slice_index_or, unwrap_or}
+use Rattle.std.specs.Prelude.{ℕ, Option, None, List, slice_index, slice_index_or, unwrap_or, ◌+◌, ◌==◌, [], ◌∷◌, if◌then◌else◌, Some}
 use Rattle.part_definitions.specs.Memory.{PowerOn}
 use Rattle.mem_map.specs.declared.image.Image.{Image}
 
@@ -17,3 +17,11 @@ power_on_with key image = record { key = λ i. slice_index key i; image = image_
 
 abbrev pub power_on_of : List ℕ → Image → PowerOn
 power_on_of key image = power_on_with key (byte_in image)
+
+-- Bytes that are placed one after the other.
+
+-- which of these bytes, from the first place upwards, is at a place
+abbrev pub byte_among : ℕ → List ℕ → ℕ → Option ℕ
+byte_among first [] place = None
+byte_among first (byte ∷ bytes) place =
+    if place == first then Some byte else byte_among (first + 1) bytes place

@@ -1,5 +1,4 @@
 pub mod Image
 pub mod ImagePlace
 pub mod Memory
-pub mod ByteAmong
 pub mod Span

@@ -6,7 +6,7 @@ use Rattle.text_scan.specs.declared.fault_kind.FaultKind.{FaultKind}
 use Rattle.asm_text.specs.declared.statement.Statement.{Statement}
 use Rattle.msp_asm.specs.{Value.Scope, Statement.{size_of, bytes_of}, FirstPass.{at_line, first_fault, first_pass_fault, is_among, is_placed, scope_after}, SecondPass.{byte_from, byte_placed, scope_among}}
 use Rattle.msp_asm.proofs.{StatementSize.bytes_have_their_size, LinesSoFar.{neither, no_fault_at}, FreePlaces.{are_free, apart}}
-use Rattle.mem_map.specs.ByteAmong.{byte_among}
+use Rattle.mem_map.specs.Image.{byte_among}
 
 apart_more : (first count place : ℕ) → is_among first (suc count) place ≡ false
     → is_among (first + 1) count place ≡ false

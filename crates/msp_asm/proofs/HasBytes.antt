@@ -10,9 +10,9 @@ use Rattle.part_definitions.specs.Memory.{is_image_place}
 use Rattle.msp_decode.specs.{declared.instr.Instr.Instr, Completion.words_of, Law.AreReadAs}
 use Rattle.text_scan.specs.{declared.{fault_kind.FaultKind.FaultKind, fault_at.FaultAt.FaultAt, text_fault.TextFault.TextFault}, Reader.{◌>>=◌, Reads, value_as, value_or_fault}}
 use Rattle.asm_text.specs.{declared.{body.Body.{Body, TheVariants.{Empty, Instr as Instruction, Org, Word, Byte, Ascii, Equ}}, statement.Statement.Statement}}
-use Rattle.msp_asm.specs.{Value.Scope, Statement.{size_of, bytes_of, word_bytes, named_instruction, IsNamed}, FirstPass.{first_fault, first_pass_fault, is_placed, scope_after}, SecondPass.{byte_from, byte_placed, byte_of_image, fault_of, image_of, scope_among, second_pass_fault}, Source.source_image, HasBytes.{HasBytes, HasBytesOf, HasInstruction, HasInstructionOf, OfEachStatement}}
+use Rattle.msp_asm.specs.{Value.Scope, Statement.{size_of, bytes_of, word_bytes, named_instruction, IsNamed}, FirstPass.{first_fault, first_pass_fault, is_placed, scope_after}, SecondPass.{byte_from, byte_placed, byte_of_image, fault_of, image_of, scope_among, second_pass_fault, source_image}, HasBytes.{HasBytes, HasBytesOf, HasInstruction, HasInstructionOf, OfEachStatement}}
 use Rattle.msp_asm.proofs.{StatementSize.bytes_have_their_size, LinesSoFar.{neither, no_fault_at}, FreePlaces.{are_free, all_among, among_between}, BytesStay.stays}
-use Rattle.mem_map.specs.{declared.image.Image.Image, Image.byte_in, ByteAmong.byte_among}
+use Rattle.mem_map.specs.{declared.image.Image.Image, Image.{byte_in, byte_among}}
 
 byte_among-next : (first byte : ℕ) (bytes : List ℕ) (place : ℕ) → first + 1 ≤ place
     → byte_among first (byte ∷ bytes) place ≡ byte_among (first + 1) bytes place

@@ -6,7 +6,7 @@ use Rattle.std.proofs.lemmas.List.{length-append}
 use Rattle.word_arith.specs.declared.size.Size.{Size}
 use Rattle.msp_decode.specs.{declared.{source.Source.Source, dest.Dest.Dest, one.One.One as OneOp, cond.Cond.Cond, instr.Instr.Instr, encode_fault.EncodeFault.TheVariants.{NoByteForm, NotWritable, NoSuchForm, OffsetRange}}, Spelling.{has_size, has_form, has_range, takes_result, writes_operand}, Completion.{head_part, source_form, source_words as words_of_source, dest_words as words_of_dest, words_of}, EncodeFault.first_fault, Law.{AreReadAs, WordsAreRead}}
 use Rattle.msp_decode.specs.declared.instr.Instr.TheVariants as instr
-use Rattle.part_definitions.specs.AddressSum.{plus}
+use Rattle.part_definitions.specs.CpuRegister.{plus}
 use Rattle.text_scan.specs.{declared.fault_kind.FaultKind.FaultKind, Reader.◌>>=◌}
 use Rattle.text_scan.specs.declared.fault_kind.FaultKind.TheVariants as fault
 use Rattle.asm_text.specs.{declared.{body.Body.{Body, TheVariants.{Empty, Instr as Instruction, Org, Word, Byte, Ascii, Equ}}, form.{Form.{Form, TheVariants.{Two, One, Reti, Jump}}, SourceRole.{SourceRole, TheVariants.{First, Constant, StackTop}}, DestRole.{DestRole, TheVariants.{First as OnlyDest, Second, Register}}}}, Form.form_of}

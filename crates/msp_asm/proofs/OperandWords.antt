@@ -8,7 +8,7 @@ use Rattle.msp_decode.specs.declared.dest.Dest.TheVariants as dest
 use Rattle.text_scan.specs.{declared.fault_kind.FaultKind.FaultKind, Reader.◌>>=◌}
 use Rattle.text_scan.specs.declared.fault_kind.FaultKind.TheVariants as fault
 use Rattle.asm_text.specs.{declared.operand.Operand.{Operand, TheVariants.{Reg, Imm, Abs, Indexed, Symbolic, Indirect, IndirectInc}}}
-use Rattle.part_definitions.specs.AddressSum.{minus}
+use Rattle.part_definitions.specs.CpuRegister.{minus}
 use Rattle.msp_asm.specs.{Value.{address_of, word_of}, Operand.{generated_constant, operand_words, immediate_word, immediate, source_of, dest_of}}
 
 -- what is read after something that was read

@@ -4,7 +4,7 @@ use Rattle.std.specs.Option.{option_or}
 use Rattle.std.proofs.Math.Bool.{and-false}
 use Rattle.std.proofs.lemmas.Bool.Decides.{eqb_tells}
 use Rattle.part_definitions.specs.Memory.{is_image_place}
-use Rattle.mem_map.specs.ByteAmong.{byte_among}
+use Rattle.mem_map.specs.Image.{byte_among}
 use Rattle.mem_map.proofs.PlacedBytes.{byte_among-more}
 
 place_test : (first place : ℕ) → IsTrue (is_image_place place)

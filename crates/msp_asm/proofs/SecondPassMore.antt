@@ -5,7 +5,7 @@ use Rattle.part_definitions.specs.Memory.{is_image_place}
 use Rattle.text_scan.specs.{declared.text_fault.TextFault.{TextFault, TheVariants.{At, Memory}}, Reader.{Reads, value_as, value_or_fault}}
 use Rattle.asm_text.specs.declared.statement.Statement.{Statement}
 use Rattle.mem_map.specs.{declared.image.Image.Image, Image.byte_in, ImagePlace.IsImage}
-use Rattle.msp_asm.specs.{Value.Scope, Names.value_in, Statement.bytes_of, declared.assembly.Layout.Layout, FirstPass.{first_fault, first_pass_fault, scope_after}, SecondPass.{byte_from, byte_placed, scope_among, second_pass_fault, byte_of_image, image_of}, Assembly.{AnswersAt, LayoutStandsFor}}
+use Rattle.msp_asm.specs.{Value.{Scope, value_in}, Statement.bytes_of, declared.assembly.Layout.Layout, FirstPass.{first_fault, first_pass_fault, scope_after}, SecondPass.{byte_from, byte_placed, scope_among, second_pass_fault, byte_of_image, image_of}, Assembly.{AnswersAt, LayoutStandsFor}}
 
 same_scope : (names other : List ℕ → Option ℤ) (here there : ℕ)
     → names ≡ other

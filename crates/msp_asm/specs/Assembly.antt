@@ -2,7 +2,7 @@
 use Rattle.std.specs.Prelude.{◌≡◌, ◌<◌, ℕ, List, length, reverse, take, slice_index, Option, Some, None, Result, Ok, Err}
 use Rattle.text_scan.specs.{declared.{fault_at.FaultAt.FaultAt, text_fault.TextFault.{TextFault, TheVariants.{At, Memory}}}}
 use Rattle.asm_text.specs.declared.statement.Statement.{Statement}
-use Rattle.msp_asm.specs.{Names.value_in, declared.assembly.Layout.Layout, FirstPass.scope_after}
+use Rattle.msp_asm.specs.{Value.value_in, declared.assembly.Layout.Layout, FirstPass.scope_after}
 
 -- the names of all statements, and the place before each
 pub record LayoutStandsFor (layout : Layout) (statements : List Statement) : Type 0 where

@@ -1,7 +1,7 @@
 -- What a first pass in the midst of a source stands for.
 use Rattle.std.specs.Prelude.{◌≡◌, List}
 use Rattle.asm_text.specs.declared.statement.Statement.{Statement}
-use Rattle.msp_asm.specs.{Value.Scope, Names.value_in, declared.first_pass.FirstPass.FirstPass, FirstPass.{scope_after, is_placed}, FirstPassState.occupies}
+use Rattle.msp_asm.specs.{Value.{Scope, value_in}, declared.first_pass.FirstPass.FirstPass, FirstPass.{scope_after, is_placed}, FirstPassState.occupies}
 
 -- what the next statement is read in
 abbrev pub scope_of : FirstPass → Scope

@@ -1,15 +1,15 @@
 -- The instruction that a statement names, at its address.
-use Rattle.std.specs.Prelude.{◌+◌, ◌-◌, ◌*◌, ◌/◌, ◌%◌, ◌==◌, ◌&&◌, ℕ, ℤ, pos, neg_ℤ, Bool, not, ◌||◌, nat_le, if◌then◌else◌, Option, None, Result, Ok, Err}
+use Rattle.std.specs.Prelude.{◌+◌, ◌-◌, ◌*◌, ◌/◌, ◌%◌, ◌==◌, ◌&&◌, ℕ, ℤ, pos, neg_ℤ, Bool, not, ◌||◌, nat_le, if◌then◌else◌, Option, None, Result, Ok, Err, option_map}
 use Rattle.word_arith.specs.declared.size.Size.{Size}
 use Rattle.msp_decode.specs.{declared.{source.Source.Source, dest.Dest.Dest, one.One.One as OneOp, cond.Cond.Cond, reg.Reg.TheVariants.R1, instr.Instr.Instr}, Spelling.{has_size, has_range, takes_result, writes_operand}, Completion.source_form}
+use Rattle.part_definitions.specs.CpuRegister.{plus}
+use Rattle.text_scan.specs.{declared.fault_kind.FaultKind.FaultKind, Reader.◌>>=◌}
+use Rattle.asm_text.specs.declared.{operand.Operand.Operand, form.{Form.{Form, TheVariants.{Two, One, Reti, Jump}}, SourceRole.{SourceRole, TheVariants.{First, Constant, StackTop}}, DestRole.{DestRole, TheVariants.{First as OnlyDest, Second, Register}}}}
+use Rattle.msp_asm.specs.{Value.{Scope, value, known_value, address_of}, Operand.{expr_in, operand_words, source_of, dest_of}, declared.instruction.Operands.Operands as OperandsOf}
 use Rattle.msp_decode.specs.declared.source.Source.TheVariants as source
 use Rattle.msp_decode.specs.declared.dest.Dest.TheVariants as dest
 use Rattle.msp_decode.specs.declared.instr.Instr.TheVariants as instr
-use Rattle.part_definitions.specs.AddressSum.{plus}
-use Rattle.text_scan.specs.{declared.fault_kind.FaultKind.FaultKind, Reader.◌>>=◌}
 use Rattle.text_scan.specs.declared.fault_kind.FaultKind.TheVariants as fault
-use Rattle.asm_text.specs.{declared.{operand.Operand.Operand, form.{Form.{Form, TheVariants.{Two, One, Reti, Jump}}, SourceRole.{SourceRole, TheVariants.{First, Constant, StackTop}}, DestRole.{DestRole, TheVariants.{First as OnlyDest, Second, Register}}}}}
-use Rattle.msp_asm.specs.{Value.{Scope, value, known_value, address_of}, Operand.{expr_in, operand_words, source_of, dest_of}}
 
 -- the operands of a statement, in the order written
 pub record Operands : Type 0 where
@@ -96,3 +96,12 @@ instruction_of scope (Jump cond) size operands = do
   first ← known_value (value scope (expr_in operands.first))
   target ← address_of first
   jump_of cond scope.here target
+
+-- The operands of a statement of the program.
+
+abbrev pub operands_in : OperandsOf → Operands
+operands_in operands =
+    record {
+      first = option_map (λ operand. operand.now) operands.first;
+      second = option_map (λ operand. operand.now) operands.second;
+    }

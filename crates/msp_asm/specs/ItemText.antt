@@ -3,7 +3,7 @@ use Rattle.std.specs.Prelude.{◌++◌, ℕ, List, [], codes}
 use Rattle.word_arith.specs.{declared.size.Size.{Size, TheVariants.{Byte as ByteSize, Word as WordSize}}}
 use Rattle.msp_decode.specs.{declared.{reg.Reg.{Reg, TheVariants.R2}, constant.Gen.{Gen, TheVariants.{Zero, One as PlusOne, Two as PlusTwo, Four, Eight, MinusOne}}, source.Source.{Source, TheVariants.{Reg as Register, Indexed, Indirect, IndirectInc, Immediate, Constant}}, dest.Dest.{Dest, TheVariants.{Reg as DestRegister, Indexed as DestIndexed}}, instr.Instr.{Instr, TheVariants.{Two, One as OneOperand, Reti, Jump}}}}
 use Rattle.asm_text.specs.Name.{op2_name, one_name, jump_name, reg_name}
-use Rattle.part_definitions.specs.{AddressSum.plus, Instruction.jump_target}
+use Rattle.part_definitions.specs.{CpuRegister.plus, Instruction.jump_target}
 use Rattle.printed_lines.specs.Line.{byte_digits, word_digits}
 use Rattle.msp_asm.specs.{declared.item.Item.{Item, TheVariants.{Byte, Word, Instruction}}}
 

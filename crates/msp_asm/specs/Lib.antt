@@ -1,9 +1,6 @@
 pub mod Value
-pub mod Names
-pub mod Scope
 pub mod Operand
 pub mod Instruction
-pub mod Operands
 pub mod Statement
 pub mod StatementBytes
 pub mod FirstPass
@@ -11,7 +8,6 @@ pub mod FirstPassState
 pub mod FirstPassStands
 pub mod SecondPass
 pub mod Assembly
-pub mod Source
 pub mod HasBytes
 pub mod Item
 pub mod ItemText

@@ -8,7 +8,7 @@ use Rattle.msp_decode.specs.declared.dest.Dest.TheVariants as dest
 use Rattle.text_scan.specs.{declared.fault_kind.FaultKind.FaultKind, Reader.◌>>=◌}
 use Rattle.text_scan.specs.declared.fault_kind.FaultKind.TheVariants as fault
 use Rattle.asm_text.specs.{declared.{term.Term.{Term, TheVariants.{Number, Name, Here}}, operand.Operand.{Operand, TheVariants.{Reg, Imm, Abs, Indexed, Symbolic, Indirect, IndirectInc}}}, Expr.SignedTerm}
-use Rattle.part_definitions.specs.AddressSum.{minus}
+use Rattle.part_definitions.specs.CpuRegister.{minus}
 use Rattle.msp_asm.specs.Value.{with_sign, address_of, word_of, byte_immediate_of}
 
 -- the expression of an operand; the empty one where it has none

@@ -1,11 +1,9 @@
 -- The second pass: the bytes. Lists of statements have the newest first.
-use Rattle.std.specs.Prelude.{ℕ, List, [], ◌∷◌, reverse, if◌then◌else◌, Option, None, Result, Ok, Err}
-use Rattle.std.specs.Option.{option_or}
-use Rattle.std.specs.Result.{result_err}
+use Rattle.std.specs.{Prelude.{ℕ, List, [], ◌∷◌, reverse, if◌then◌else◌, Option, None, Result, Ok, Err}, Option.option_or, Result.result_err}
 use Rattle.part_definitions.specs.Memory.{is_image_place}
-use Rattle.mem_map.specs.ByteAmong.{byte_among}
-use Rattle.text_scan.specs.{declared.{fault_at.FaultAt.FaultAt, fault_kind.FaultKind.FaultKind}, Reader.value_or_fault}
-use Rattle.asm_text.specs.declared.statement.Statement.{Statement}
+use Rattle.mem_map.specs.Image.{byte_among}
+use Rattle.text_scan.specs.{declared.{fault_at.FaultAt.FaultAt, fault_kind.FaultKind.FaultKind}, Reader.{value_or_fault, ◌>>=◌}}
+use Rattle.asm_text.specs.{declared.statement.Statement.Statement, Source.source_of}
 use Rattle.msp_asm.specs.{Value.Scope, Statement.bytes_of, FirstPass.{scope_after, first_fault, first_pass_fault}}
 
 -- what a statement after these is read in: at the same place, with the names of all statements
@@ -48,3 +46,12 @@ byte_of_image statements place =
 -- the bytes of the image by their places, or the first fault
 abbrev pub image_of : List Statement → Result (ℕ → Option ℕ) FaultAt
 image_of statements = value_or_fault (fault_of statements) (byte_of_image statements)
+
+-- The image of a source.
+
+-- the bytes of the image by their places, or the first fault: of the reading, and then of the
+-- passes
+abbrev pub source_image : List ℕ → Result (ℕ → Option ℕ) FaultAt
+source_image text = do
+  statements ← source_of text
+  image_of statements

@@ -1,7 +1,8 @@
 -- The value of an expression.
-use Rattle.std.specs.Prelude.{◌+ℤ◌, ◌-◌, ℕ, ℤ, pos, negsuc, neg_ℤ, Bool, nat_le, nat_lt, List, [], ◌∷◌, if◌then◌else◌, Option, Some, None, Result, Ok, Err}
+use Rattle.std.specs.{Prelude.{◌+ℤ◌, ◌-◌, ℕ, ℤ, pos, negsuc, neg_ℤ, Bool, nat_le, nat_lt, List, [], ◌∷◌, if◌then◌else◌, Option, Some, None, Result, Ok, Err}, Ordering.nat_cmp, Cmp.Lexicographic.slice_cmp, BTreeMap.get_by}
 use Rattle.text_scan.specs.{declared.fault_kind.FaultKind.{FaultKind, TheVariants.{Undefined, Range}}, Reader.◌>>=◌}
 use Rattle.asm_text.specs.{declared.term.Term.{Term, TheVariants.{Number, Name, Here}}, Expr.SignedTerm}
+use Rattle.msp_asm.specs.declared.{scope.Scope.Scope as ScopeOf, names.Names.Names}
 
 -- what an expression is read in: the values of names, and the address of the statement's first byte
 pub record Scope : Type 0 where
@@ -60,3 +61,14 @@ each f (item ∷ items) = do
   first ← f item
   rest ← each f items
   Ok (first ∷ rest)
+
+-- What an expression of the program is read in.
+
+-- The names of a source as a function.
+
+-- the value of a name, if it has one
+abbrev pub value_in : Names → List ℕ → Option ℤ
+value_in names name = get_by (λ k. slice_cmp nat_cmp name k.now) names.values
+
+abbrev pub scope_in : ScopeOf → Scope
+scope_in scope = record { names = value_in scope.names.now; here = scope.here }

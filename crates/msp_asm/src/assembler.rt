@@ -1,7 +1,7 @@
 ghost use Rattle.std.specs.Prelude.{IfOk};
 ghost use Rattle.mem_map.specs.Image.{byte_in};
 ghost use Rattle.text_scan.specs.Reader.{Reads, value_as};
-ghost use Rattle.msp_asm.specs.{Source.source_image, HasBytes.{OfEachStatement, HasBytesOf, HasInstructionOf}};
+ghost use Rattle.msp_asm.specs.{SecondPass.source_image, HasBytes.{OfEachStatement, HasBytesOf, HasInstructionOf}};
 
 use crate::assembly::assemble_statements;
 use crate::law::{instructions_stand_in_the_image, statements_stand_in_the_image};

@@ -4,7 +4,7 @@ ghost use Rattle.std.specs.Result.{result_err};
 ghost use Rattle.part_definitions.specs.Memory.{is_image_place};
 ghost use Rattle.mem_map.specs.Image.{byte_in};
 ghost use Rattle.text_scan.specs.Reader.{Reads, value_as};
-ghost use Rattle.msp_asm.specs.{Scope.scope_in, Statement.bytes_of, FirstPass.{first_fault, first_pass_fault}, FirstPassState.AnswersFault, SecondPass.{byte_from, byte_placed, second_pass_fault, image_of}, Assembly.{LayoutStandsFor, AnswersAt, IsMemory}};
+ghost use Rattle.msp_asm.specs.{Value.scope_in, Statement.bytes_of, FirstPass.{first_fault, first_pass_fault}, FirstPassState.AnswersFault, SecondPass.{byte_from, byte_placed, second_pass_fault, image_of}, Assembly.{LayoutStandsFor, AnswersAt, IsMemory}};
 
 use crate::first_pass::FirstPass;
 use crate::image_writer::place_bytes;
@@ -24,7 +24,7 @@ pub struct Layout<'a> {
 
 impl<'a> Layout<'a> {
     ghost use Rattle.std.specs.Prelude.{◌≡◌, ◌<◌, length, slice_index};
-    ghost use Rattle.msp_asm.specs.{Names.value_in, Scope.scope_in};
+    ghost use Rattle.msp_asm.specs.Value.{value_in, scope_in};
 
     // What the statement at an index is read in.
     fn scope(&self, i: usize) -> Scope<'_, 'a>

@@ -1,7 +1,7 @@
 ghost use Rattle.std.specs.Prelude.{◌≡◌, ◌≤◌, ◌≤ℤ◌, ◌+◌, ℕ, pos, Some, None, IfOk, OnOk, IfSome, IsNone, if◌then◌else◌};
 ghost use Rattle.std.specs.Option.{option_copied};
 ghost use Rattle.std.specs.Result.{result_err};
-ghost use Rattle.msp_asm.specs.{Names.value_in, FirstPass.{constant_name, are_same, with_name, is_org, place_of}, FirstPassState.AnswersFault};
+ghost use Rattle.msp_asm.specs.{Value.value_in, FirstPass.{constant_name, are_same, with_name, is_org, place_of}, FirstPassState.AnswersFault};
 
 use crate::names::Names;
 use crate::number::{address_of, word_of};
@@ -84,7 +84,7 @@ impl<'a> FirstPass<'a> {
     ghost use Rattle.std.specs.Option.{option_copied};
     ghost use Rattle.std.specs.Result.{result_err};
     ghost use Rattle.asm_text.specs.declared.statement.Statement.{Statement};
-    ghost use Rattle.msp_asm.specs.{Names.value_in, Scope.scope_in, Statement.size_of, FirstPass.{has_value, gives_again, constant_name, constant_value, constant_fault, places_byte, place_fault, next_scope, statement_fault, first_pass_fault}, FirstPassState.{occupies, AnswersFault}, FirstPassStands.{scope_of, FirstPassStandsFor}};
+    ghost use Rattle.msp_asm.specs.{Value.{value_in, scope_in}, Statement.size_of, FirstPass.{has_value, gives_again, constant_name, constant_value, constant_fault, places_byte, place_fault, next_scope, statement_fault, first_pass_fault}, FirstPassState.{occupies, AnswersFault}, FirstPassStands.{scope_of, FirstPassStandsFor}};
 
     /// Before the first statement: at C000, without names.
     #[tactic(auto, unfolding(crate::specs::FirstPass::scope_after, crate::specs::FirstPass::is_placed))]

@@ -1,8 +1,8 @@
 ghost use Rattle.std.specs.Prelude.{◌≡◌, ◌≤◌, ◌+◌, ◌*◌, IfOk, IsTrue, None, option_map};
 ghost use Rattle.msp_decode.specs.{Completion.{head_part, source_form}, Spelling.has_form, EncodeFault.first_fault};
-ghost use Rattle.part_definitions.specs.AddressSum.{plus};
+ghost use Rattle.part_definitions.specs.CpuRegister.{plus};
 ghost use Rattle.asm_text.specs.declared.form.Form.TheVariants.{Two as TwoForm, One as OneForm, Jump as JumpForm};
-ghost use Rattle.msp_asm.specs.{Value.{value, known_value}, Scope.scope_in, Operands.operands_in, Operand.{expr_in, operand_words}, Instruction.{takes_source, one_of, jump_of, form_size, instruction_of}};
+ghost use Rattle.msp_asm.specs.{Value.{value, known_value, scope_in}, Instruction.{operands_in, takes_source, one_of, jump_of, form_size, instruction_of}, Operand.{expr_in, operand_words}};
 
 use crate::number::address_of;
 use crate::operand::{dest_of, expr_in, operand_words, source_of};
@@ -22,7 +22,7 @@ pub struct Operands<'s, 'a> {
 impl<'s, 'a> Operands<'s, 'a> {
     ghost use Rattle.std.specs.Prelude.{◌≡◌, ◌≤◌, option_map, IfOk, IsTrue};
     ghost use Rattle.msp_decode.specs.{Completion.source_form, Spelling.has_form};
-    ghost use Rattle.msp_asm.specs.{Instruction.{written_source, written_dest, source_words, dest_words, source_at, dest_at, form_size}, Operands.operands_in};
+    ghost use Rattle.msp_asm.specs.Instruction.{written_source, written_dest, source_words, dest_words, source_at, dest_at, form_size, operands_in};
 
     // The written operand that is the source.
     fn source(self, role: SourceRole) -> Option<&'s Operand<'a>>

@@ -1,5 +1,5 @@
 ghost use Rattle.std.specs.Prelude.{◌≡◌, ◌≤◌, ◌+◌, ◌++◌, length};
-ghost use Rattle.part_definitions.specs.{AddressSum.plus, Instruction.jump_target};
+ghost use Rattle.part_definitions.specs.{CpuRegister.plus, Instruction.jump_target};
 ghost use Rattle.msp_asm.specs.ItemText.{word_text, size_suffix, indexed_text, constant_text, source_text, dest_text, instr_text, item_text};
 
 use crate::item::Item;

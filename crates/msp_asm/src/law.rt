@@ -1,5 +1,5 @@
 ghost use Rattle.std.specs.Prelude.{◌≡◌, ℕ, List, Option, Ok};
-ghost use Rattle.msp_asm.specs.{Source.source_image, HasBytes.{OfEachStatement, HasBytesOf, HasInstructionOf}};
+ghost use Rattle.msp_asm.specs.{SecondPass.source_image, HasBytes.{OfEachStatement, HasBytesOf, HasInstructionOf}};
 
 use crate::bytes_law::named_instructions_are_read;
 

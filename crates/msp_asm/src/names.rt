@@ -12,7 +12,7 @@ pub struct Names<'a> {
 }
 
 impl<'a> Names<'a> {
-    ghost use Rattle.msp_asm.specs.Names.{value_in};
+    ghost use Rattle.msp_asm.specs.Value.{value_in};
 
     pub fn new(alloc: Global) -> Names<'a>
         ensures { value_in result ≡ (λ name. None) }

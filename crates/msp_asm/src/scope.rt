@@ -25,7 +25,7 @@ fn with_sign(is_subtracted: bool, value: i64) -> i128
 
 impl Scope<'_, '_> {
     ghost use Rattle.std.specs.Prelude.{◌≡◌};
-    ghost use Rattle.msp_asm.specs.{Value.{term_value, value, known_value}, Scope.scope_in};
+    ghost use Rattle.msp_asm.specs.Value.{term_value, value, known_value, scope_in};
 
     fn term_value(&self, term: &Term<'_>) -> Option<i64>
         ensures { result ≡ term_value (scope_in self.now) term.now }

@@ -92,7 +92,7 @@ impl Scope<'_, '_> {
     ghost use Rattle.std.specs.Prelude.{IfOk};
     ghost use Rattle.msp_decode.specs.declared.instr.Instr.{Instr};
     ghost use Rattle.text_scan.specs.Reader.{ReadsWord};
-    ghost use Rattle.msp_asm.specs.{Scope.scope_in, Statement.{values_of, bytes_of, IsNamed, AreBytesOf}, StatementBytes.{GivesValues, AddsBytes}};
+    ghost use Rattle.msp_asm.specs.{Value.scope_in, Statement.{values_of, bytes_of, IsNamed, AreBytesOf}, StatementBytes.{GivesValues, AddsBytes}};
 
     // The values of expressions.
     fn values(&self, alloc: Global, exprs: &[Expr<'_>]) -> Result<Vec<i128>, WordFault>

@@ -1,6 +1,6 @@
 -- Instructions, their heads and their extension words.
 use Rattle.std.specs.Prelude.{◌+◌, ◌++◌, ◌==◌, ℕ, List, [], ◌∷◌, if◌then◌else◌}
-use Rattle.word_arith.specs.Word16.{Word16}
+use Rattle.word_arith.specs.Number.{Word16}
 use Rattle.msp_decode.specs.{declared.{source.Source.{Source, TheVariants.{Reg, Indexed, Indirect, IndirectInc, Immediate, Constant}}, dest.Dest.{Dest, TheVariants.{Reg as DestReg, Indexed as DestIndexed}}, source_form.SourceForm.{SourceForm, TheVariants.{Register as RegisterForm, Indexed as IndexedForm, Indirect as IndirectForm, IndirectInc as IndirectIncForm, Immediate as ImmediateForm, Constant as ConstantForm}}, dest_form.DestForm.{DestForm, TheVariants.{Register as DestRegisterForm, Indexed as DestIndexedForm}}, instr.Instr.{Instr, TheVariants.{Two, One, Reti, Jump}}, head.Head.{Head, TheVariants.{Two as TwoHead, One as OneHead, Reti as RetiHead, Jump as JumpHead}}}, Spelling.word_of}
 
 -- how many extension words a source has

@@ -1,6 +1,6 @@
 -- The extension words as a list.
 use Rattle.std.specs.Prelude.{◌≡◌, List, [], ◌∷◌, refl}
-use Rattle.word_arith.specs.Word16.{Word16}
+use Rattle.word_arith.specs.Number.{Word16}
 use Rattle.msp_decode.specs.{declared.following_words.FollowingWords.{FollowingWords, TheVariants.{Nothing, One, Two}}}
 
 -- the extension words in order

@@ -1,6 +1,6 @@
 -- The head of an instruction word, as a function that computes.
 use Rattle.std.specs.Prelude.{◌/◌, ◌%◌, ◌==◌, ◌&&◌, ◌||◌, not, nat_lt, if◌then◌else◌, Option, Some, None}
-use Rattle.word_arith.specs.{declared.size.Size.Size, Word16.Word16}
+use Rattle.word_arith.specs.{declared.size.Size.Size, Number.Word16}
 use Rattle.msp_decode.specs.{declared.{one.One.One, source_form.SourceForm.SourceForm, head.Head.{Head, TheVariants.{Two, One as OneOperand, Reti, Jump}}}, Spelling.{has_size, takes_result, writes_operand}, Field.{op2_of, one_of, cond_of, size_of_bit, source_of, dest_of, offset_of}}
 
 abbrev pub two_head : Word16 → Head

@@ -1,6 +1,6 @@
 -- The laws of spellings.
 use Rattle.std.specs.Prelude.{◌≡◌, ◌↔◌, ◌<◌, ◌^◌, ◌+◌, List, [], ◌∷◌, take, length, slice_index, Some, None, IsNone}
-use Rattle.word_arith.specs.Word16.{Word16}
+use Rattle.word_arith.specs.Number.{Word16}
 use Rattle.msp_decode.specs.{declared.{head.Head.Head, instr.Instr.Instr}, Spelling.{Spells, IsIllegalWord}, Head.head_of, Completion.{completion, extension_count, head_part, words_of}, EncodeFault.first_fault}
 
 -- the function that computes a head and the relation agree, both ways

@@ -1,6 +1,6 @@
 -- What an instruction word spells.
 use Rattle.std.specs.Prelude.{◌≡◌, ◌<◌, ◌≤◌, ◌⊎◌, ◌+◌, ◌*◌, ◌/◌, ◌%◌, ◌==◌, ◌&&◌, ◌||◌, ℕ, ℤ, pos, negsuc, Bool, true, false, not, nat_lt, IsTrue}
-use Rattle.word_arith.specs.{declared.size.Size.{Size, TheVariants.{Byte, Word}}, Word16.Word16}
+use Rattle.word_arith.specs.{declared.size.Size.{Size, TheVariants.{Byte, Word}}, Number.Word16}
 use Rattle.msp_decode.specs.{declared.{one.One.{One, TheVariants.{Swpb, Sxt, Push, Call}}, head.Head.{Head, TheVariants.{Two, One as OneOperand, Reti, Jump}}, source_form.SourceForm.{SourceForm, TheVariants.{Register, Indexed, Indirect, IndirectInc, Immediate, Constant}}}, Table.{reg_number, op2_number, one_number, cond_number, size_number, source_mode, source_register, dest_mode, dest_register, offset_number}}
 
 -- SWPB, SXT and CALL are of words alone

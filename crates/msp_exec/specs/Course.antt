@@ -1,9 +1,10 @@
 -- Which states a processor stands for: those with the same course from here on.
-use Rattle.std.specs.Prelude.{◌≡◌, ◌++◌, ℕ, Bool, true, false, not, List, [], ◌∷◌}
+use Rattle.std.specs.Prelude.{◌≡◌, ◌++◌, ℕ, Bool, true, false, not, List, [], ◌∷◌, ◌+◌, ◌-◌, ◌==◌, ◌^◌, min, if◌then◌else◌}
 use Rattle.device_types.specs.declared.access.Access.{Access}
-use Rattle.msp_decode.specs.declared.head.Head.{Head}
+use Rattle.msp_decode.specs.{declared.head.Head.{Head, TheVariants.Reti}, Spelling.word_of}
 use Rattle.part_definitions.specs.{declared.{cpu_access.CpuAccess.{CpuAccess, TheVariants.WriteResult}, working_state.WorkingState.WorkingState}, BusAccess.write_at, Operand.size_of, Instruction.bus_access, NextAccess.{Next, Asks, Completes, walk, is_illegal, next_access, entry_access}, CpuState.{CpuState, Boundary, Executing, Entering, registers_of, is_at_boundary, is_entering}, CpuRegister.Registers}
 use Rattle.msp_exec.specs.{declared.{phase.{EntryAccess.{EntryAccess, TheVariants.{PushPc, PushSr, ReadVector}}, Phase.{Phase, TheVariants.{Boundary as AtBoundary, Executing as InInstruction, Entering as InEntry}}}, cpu.Cpu.Cpu}, Order.accesses_after}
+use Rattle.word_arith.specs.Number.{Word16}
 
 -- between two instructions
 abbrev pub is_boundary : Phase → Bool
@@ -83,3 +84,17 @@ Follows cpu regs entry course = GoesOnAs cpu regs entry course (course [])
 abbrev pub Begins : Cpu → Cpu → ℕ → Type 0
 Begins old new word =
     Follows new old.regs false (λ values. next_access old.work.regs (word ∷ values))
+
+-- How many handlers were entered and not left.
+
+-- behind the acceptance of an interrupt, as far as a number of 64 bits counts
+abbrev pub level_entered : ℕ → ℕ
+level_entered level = min (level + 1) (2 ^ 64 - 1)
+
+-- behind an opcode fetch of this word
+abbrev pub level_begun : ℕ → Word16 → ℕ
+level_begun level word = if word == word_of Reti then level - 1 else level
+
+-- behind a value that is taken in this phase
+abbrev pub level_taken : Phase → ℕ → ℕ → ℕ
+level_taken phase level value = if is_boundary phase then level_begun level value else level

@@ -1,4 +1,3 @@
 pub mod Order
 pub mod TwoOperands
 pub mod Course
-pub mod Level

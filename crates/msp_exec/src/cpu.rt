@@ -1,7 +1,7 @@
 ghost use Rattle.std.specs.Prelude.{◌≡◌, ◌∷◌, [], true, false, not, List, ℕ, Some, IsTrue};
 ghost use Rattle.device_types.specs.Access.{IsFormed};
 ghost use Rattle.part_definitions.specs.{CpuRegister.{sp_of, with_pc, with_sp, allows_interrupts, is_asleep}, CpuAccess.accesses_of, Operand.state_at_start, NextAccess.{Asks, is_illegal, next_access, walk}, CpuState.{CpuState, Boundary, clear_cpu, registers_of, cpu_pc, is_at_boundary, is_entering, cpu_access, cpu_after, cpu_takes, entry_begun}, Part.{Answers, Becomes}};
-ghost use Rattle.msp_exec.specs.{Level.{level_entered, level_begun, level_taken}, declared.phase.Phase.TheVariants.Boundary as AtBoundary, Order.accesses_from, Course.{is_entry, takes_value, instruction_course, entry_course, cpu_course, CpuStandsFor, Follows, Begins}};
+ghost use Rattle.msp_exec.specs.{Course.{level_entered, level_begun, level_taken, is_entry, takes_value, instruction_course, entry_course, cpu_course, CpuStandsFor, Follows, Begins}, declared.phase.Phase.TheVariants.Boundary as AtBoundary, Order.accesses_from};
 
 use crate::access::{bus_access, fetch_at, read_at, write_at};
 use crate::instruction::{end, end_apart, learn, start};

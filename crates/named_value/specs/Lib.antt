@@ -1,2 +1,1 @@
-pub mod PlainWord
 pub mod Names

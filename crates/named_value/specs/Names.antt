@@ -1,7 +1,15 @@
 -- Values that have names, by which texts have them.
-use Rattle.std.specs.Prelude.{◌≡◌, ℕ, List, [], ◌∷◌, length, max, find, Option, Some}
-use Rattle.std.specs.Str.{bytes_eq}
-use Rattle.named_value.specs.PlainWord.{IsPlainWord}
+use Rattle.std.specs.{Prelude.{◌≡◌, ℕ, List, [], ◌∷◌, length, max, find, Option, Some, ◌<◌, ◌&&◌, Bool, true, nat_le, nat_lt}, Str.bytes_eq, List.list_all}
+
+-- Words of printed characters.
+
+-- a printed character of ASCII that is no blank
+abbrev pub is_plain : ℕ → Bool
+is_plain character = nat_le 33 character && nat_lt character 127
+
+-- some of them, and nothing else
+abbrev pub IsPlainWord : List ℕ → Type 0
+IsPlainWord word = (0 < length word) × (list_all is_plain word ≡ true)
 
 -- all values of a type in order, and a name for each
 pub record Names (Value : Type 0) : Type 0 where

@@ -1,6 +1,6 @@
 -- Counts of faults that rose.
 use Rattle.std.proofs.Common.{◌≤◌, ℕ, inl, inr, arith}
-use Rattle.outside_edge.specs.Count.{Rose}
+use Rattle.outside_edge.specs.Calls.{Rose}
 
 -- what rose since a later moment rose since an earlier one
 pub rose_since : (first middle last : ℕ) → first ≤ middle → Rose middle last → Rose first last

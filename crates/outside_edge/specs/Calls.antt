@@ -1,6 +1,15 @@
 -- Calls that are counted, some of which are to fail.
-use Rattle.std.specs.Prelude.{ℕ, List}
-use Rattle.outside_edge.specs.Count.{one_more}
+use Rattle.std.specs.Prelude.{ℕ, List, ◌≡◌, ◌<◌, ◌+◌, ◌-◌, ◌^◌, ◌⊎◌, min}
+
+-- Counts of calls, faults and misses: 64-bit numbers that stand still at their end.
+
+-- a count rose: it is greater than before, or stands at its end
+abbrev pub Rose : ℕ → ℕ → Type 0
+Rose before after = (before < after) ⊎ (after ≡ 2 ^ 64 - 1)
+
+-- the count after one more
+abbrev pub one_more : ℕ → ℕ
+one_more count = min (count + 1) (2 ^ 64 - 1)
 
 -- Which calls are to fail, counted from 1, and how many calls and faults there were.
 pub record CallCounts : Type 0 where

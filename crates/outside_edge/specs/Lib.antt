@@ -1,9 +1,6 @@
 pub mod Buffer
 pub mod Calls
-pub mod Count
 pub mod File
-pub mod FileFault
-pub mod OpenFile
 pub mod Shelf
 pub mod Sink
 pub mod Source

@@ -1,5 +1,5 @@
 ghost use Rattle.std.specs.Prelude.{◌≡◌, ◌≤◌, ◌↔◌, Contains, IsTrue};
-ghost use Rattle.outside_edge.specs.{Calls.{with_call, with_fault}, Count.Rose};
+ghost use Rattle.outside_edge.specs.Calls.{with_call, with_fault, Rose};
 
 use std::marker::Model;
 

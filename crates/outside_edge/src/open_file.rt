@@ -1,5 +1,5 @@
 ghost use Rattle.std.specs.Prelude.{◌≡◌, ◌≤◌, ◌+◌, Option, Some, length, IfOk, IfSome, OnOk};
-ghost use Rattle.outside_edge.specs.{File.Copies, OpenFile.PlacedFile};
+ghost use Rattle.outside_edge.specs.File.{Copies, PlacedFile};
 
 use std::io;
 

@@ -1,6 +1,6 @@
 ghost use Rattle.std.specs.Prelude.{◌≡◌, ◌≢◌, ◌<◌, ◌≤◌, ◌↔◌, ℕ, List, Some, IsTrue, length, IfErr, IfOk, OnErr};
 ghost use Rattle.std.specs.IoError.{error_kind};
-ghost use Rattle.outside_edge.specs.{File.Copies, OpenFile.IsOpen};
+ghost use Rattle.outside_edge.specs.File.{Copies, IsOpen};
 
 use crate::open_file::OpenFile;
 use arrayvec::ArrayString;

@@ -2,7 +2,7 @@
 -- region. (In the manner of ASAP.)
 use Rattle.std.specs.Prelude.{◌&&◌, ◌||◌, Bool, not, Option}
 use Rattle.std.specs.List.{list_any}
-use Rattle.device_types.specs.{declared.{region.Region.Region, bus_record.BusRecord.BusRecord}, Access.some_reads, Bounds.executable_region, Kind.is_irq, Map.{lies_in, vector_region}, SeenRecord.{SeenHistory, SeenRecord}, Address.{Address, even}, ExecFlag.{accesses_in, writes_to, runs_inside, enters_region, fetches_first, clears_both, is_set}}
+use Rattle.device_types.specs.{declared.{region.Region.Region, bus_record.BusRecord.BusRecord}, Access.some_reads, Bounds.executable_region, Kind.is_irq, Map.{lies_in, vector_region}, ExecFlag.{SeenHistory, SeenRecord, accesses_in, writes_to, runs_inside, enters_region, fetches_first, clears_both, is_set}, Address.{Address, even}}
 
 -- an interrupt entry reads its vector
 abbrev pub reads_vector : BusRecord → Bool

@@ -1,6 +1,6 @@
 ghost use Rattle.std.specs.Prelude.{◌≡◌, ℕ};
 ghost use Rattle.text_scan.specs.LineFold.{TakesLine};
-ghost use Rattle.play_script.specs.{Grammar.{no_lines, with_entry}, Happening.events_in, Script.{events_of, from_step}};
+ghost use Rattle.play_script.specs.{Grammar.{no_lines, with_entry}, Script.{events_in, events_of, from_step}};
 
 use crate::happening::Happening;
 use crate::playback::Playback;

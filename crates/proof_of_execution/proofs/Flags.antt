@@ -2,7 +2,7 @@
 use Rattle.std.proofs.Common.{◌≡◌, ◌&&◌, ℕ, Bool, true, false, not, List, [], ◌∷◌, ◌⊎◌, inl, inr, length, map, Option, Some, None, ap, sym, ◌∙◌, arith}
 use Rattle.std.specs.Prelude.{◌==◌}
 use Rattle.std.proofs.lemmas.Bool.{and_from, and_parts, not-true, not_from_false, false_from_ne_true}
-use Rattle.device_types.specs.{declared.{access.Access.Access, bounds.Bounds.Bounds, bus_record.BusRecord.BusRecord, rule.Rule.Rule}, Access.some_reads, Bounds.{are_valid, executable_region}, Kind.is_irq, Map.lies_in, SeenRecord.SeenRecord, ExecFlag.{is_opcode_fetch, starts_run, runs_inside, last_pc, exec}}
+use Rattle.device_types.specs.{declared.{access.Access.Access, bounds.Bounds.Bounds, bus_record.BusRecord.BusRecord, rule.Rule.Rule}, Access.some_reads, Bounds.{are_valid, executable_region}, Kind.is_irq, Map.lies_in, ExecFlag.{SeenRecord, is_opcode_fetch, starts_run, runs_inside, last_pc, exec}}
 use Rattle.part_definitions.specs.{FirstRule.first_rule, TrustedFlag.{aux, clears_aux, enters_elsewhere, reads_vector, handler_read}}
 use Rattle.device_trace.specs.{Blank.blank_seen, Logs.{Logs, vector_of, step_progress, progress_after}, Progress.last_registers, Signals.{value_read, step_kind, proposed_access, signals_at, signals_of}, Start.Start, Step.{dma_value_read, record_from, record_of}, RegionRun.{Interrupts, NoInterrupts, TrustedInterrupts, runs_alone, runs_with}}
 use Rattle.trace_facts.proofs.{BlankRecords.{last_pc-blank, starts_run-blank}, Choices.other_false, ExecFlag.{exec-more, exec-none, aux-more, aux-none}, Fresh.LogsAreFresh}

@@ -1,7 +1,7 @@
 -- What a record does that does not clear the second flag, which sees it blanked.
 use Rattle.std.proofs.Common.{◌≡◌, ◌<◌, ◌*◌, ◌/◌, ◌&&◌, ℕ, Bool, true, false, not, Option, Some, None, ap, sym, ◌∙◌, arith}
 use Rattle.std.proofs.lemmas.Bool.{or_parts, and_from, not_from_false, false_from_ne_true, cond_both}
-use Rattle.device_types.specs.{declared.{access.Access.Access, bounds.Bounds.Bounds}, Access.some_reads, Bounds.{are_valid, executable_region}, Kind.is_irq, Map.lies_in, SeenRecord.SeenRecord, ExecFlag.{runs_inside, ran_inside, fetches_first, clears_both}}
+use Rattle.device_types.specs.{declared.{access.Access.Access, bounds.Bounds.Bounds}, Access.some_reads, Bounds.{are_valid, executable_region}, Kind.is_irq, Map.lies_in, ExecFlag.{SeenRecord, runs_inside, ran_inside, fetches_first, clears_both}}
 use Rattle.part_definitions.specs.TrustedFlag.{enters_elsewhere, clears_f3, clears_f4, clears_f10, clears_aux}
 use Rattle.device_trace.specs.{Blank.{touches_secrets, blank_access, blank_value, blank_seen}, RegionRun.{TrustedInterrupts, runs_alone, runs_with, keeps_code, keeps_code_with}}
 use Rattle.proof_of_execution.proofs.{Keeps.{KeepsBoth, clears_both-kept, alone-kept, code-kept, entered_only}, Regions.inside-open}

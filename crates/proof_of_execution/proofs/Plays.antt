@@ -3,9 +3,9 @@ use Rattle.std.proofs.Common.{◌≡◌, ℕ, Bool, true, false, List, [], ◌�
 use Rattle.std.specs.Prelude.{◌==◌, ◌&&◌, is_some, IsTrue, if◌then◌else◌, is_none}
 use Rattle.std.specs.List.{list_any}
 use Rattle.std.proofs.lemmas.Bool.{and_parts, or_parts, eqb-true, false_from_ne_true}
-use Rattle.device_types.specs.{declared.{bounds.Bounds.Bounds, bus_record.BusRecord.BusRecord, event.Event.Event}, Bounds.{are_valid, executable_region}, Kind.is_rom, Map.{lies_in, metadata_region, ROM_EXIT}, Report.ReportFields, SeenRecord.SeenRecord, ExecFlag.{accesses_in, writes_to, ran_inside, last_pc, fetches_first}}
+use Rattle.device_types.specs.{declared.{bounds.Bounds.Bounds, bus_record.BusRecord.BusRecord, event.Event.Event}, Bounds.{are_valid, executable_region}, Kind.is_rom, Map.{lies_in, metadata_region, ROM_EXIT}, Report.ReportFields, ExecFlag.{SeenRecord, accesses_in, writes_to, ran_inside, last_pc, fetches_first}}
 use Rattle.part_definitions.specs.MonitorRule.{in_rom}
-use Rattle.device_trace.specs.{Play.Play, Logs.{Logs, exec_of, logged_bounds, step_progress, finishes_call, call_decision, progress_after, with_events, with_record}, Progress.Progress, Start.Start, Step.{record_of, asks_reset, next_record}, Text.{report_of, denial_where, last_report, last_decision, last_denial}, Trace.{logs_after, trace}, RegionRun.{WholeRun, Interrupts, NoInterrupts, RegionRun}}
+use Rattle.device_trace.specs.{Trace.{Play, logs_after, trace}, Logs.{Logs, exec_of, logged_bounds, step_progress, finishes_call, call_decision, progress_after, with_events, with_record}, Progress.Progress, Start.Start, Step.{record_of, asks_reset, next_record}, Text.{report_of, denial_where, last_report, last_decision, last_denial}, RegionRun.{WholeRun, Interrupts, NoInterrupts, RegionRun}}
 use Rattle.trace_facts.proofs.{Choices.none_there, BoundsStay.logged_bounds-stay, Fresh.{LogsAreFresh, logs_after-fresh}, LastReport.last_report-made}
 use Rattle.proof_of_execution.specs.WholeCall.{ExecAfterCallMeansWholeRun}
 use Rattle.proof_of_execution.proofs.{Regions.inside-open, Runs.{RunState, run_begins, state_after, run_outside}, InterruptEntries.{IsEarly, logs_after-early}, Flags.{KeepsFlag, flag_of, flag-none, flag-more, keeps-both, record_goes}}

@@ -1,7 +1,7 @@
 -- Closed plays at which the law is computed.
 use Rattle.std.specs.Prelude.{Bool, [], ◌∷◌, Option, Some, None}
 use Rattle.device_types.specs.{declared.event.Event.TheVariants.Rx, Report.ReportFields}
-use Rattle.device_trace.specs.{Example.quiet_steps, Play.Play}
+use Rattle.device_trace.specs.{Example.quiet_steps, Trace.Play}
 
 -- the region is called and then attested, with no event
 abbrev pub quiet_play : Play

@@ -1,6 +1,6 @@
 ghost use Rattle.std.specs.Prelude.{◌≡◌, ℕ, IsTrue, Some};
 ghost use Rattle.device_types.specs.Report.{ReportFields};
-ghost use Rattle.device_trace.specs.{Logs.{exec_of, logged_bounds}, Report.{EachReport, ExecMeansWholeRun}, Start.Start, Text.{last_denial, last_report}, Trace.{logs_after, trace}, RegionRun.WholeRun, Play.Play};
+ghost use Rattle.device_trace.specs.{Logs.{exec_of, logged_bounds}, Report.{EachReport, ExecMeansWholeRun}, Start.Start, Text.{last_denial, last_report}, Trace.{logs_after, trace, Play}, RegionRun.WholeRun};
 ghost use Rattle.proof_of_execution.specs.WholeCall.{ExecAfterCallMeansWholeRun};
 
 /// Where the last step of a play finishes a call, whatever it decides, and EXEC is 1, the bounds

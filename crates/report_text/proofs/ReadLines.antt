@@ -8,10 +8,10 @@ use Rattle.device_types.specs.{Report.ReportFields, declared.rule.Rule.Rule, Rul
 use Rattle.printed_lines.specs.Line.{byte_digits, word_digits, flag_digit, with_pieces, line_of, sent_line, reset_line, report_keyword, report_line, denied_line, end_line}
 use Rattle.line_buffer.specs.LineLaw.{ArePieces}
 use Rattle.line_buffer.proofs.PieceLines.{first_line, utf8_line, plain-flag, plain-byte, plain-word}
-use Rattle.text_scan.specs.{LineFold.{lines_fold, text_fold}, Line.numbered_lines, Word.{words_of, says_nothing, is_passed_over}, WordValue.{number_of, place_of, hex_block_of}}
-use Rattle.named_value.specs.{Names.value_named, PlainWord.IsPlainWord}
+use Rattle.text_scan.specs.{LineFold.{lines_fold, text_fold, numbered_lines}, Word.{words_of, says_nothing, is_passed_over}, WordValue.{number_of, place_of, hex_block_of}}
+use Rattle.named_value.specs.Names.{value_named, IsPlainWord}
 use Rattle.text_scan.proofs.{PlainWords.{hex_bytes_of-digits, hex_word_of-digits, one_byte, plain-decimal}, NamedWord.value_of-name, TextUtf8.utf8_of-whole}
-use Rattle.report_verifier.specs.{declared.verdict.Verdict.Verdict, VerdictName.{verdict_name, verdict_names}}
+use Rattle.report_verifier.specs.{declared.verdict.Verdict.Verdict, Verdict.{verdict_name, verdict_names}}
 use Rattle.report_text.specs.{ReadBack.{IsPrintable, IsReadBack, IsPassedOver}, ReportFile.{with_report, with_line, reports_of}, ReportLine.{no_report_of, report_line_of}, VerdictLine.verdict_line}
 use Rattle.report_text.proofs.ReportWords.{report_pieces, word_shown, report_line_of-pieces, count_of-decimal, flag_of-digit, pieces-report}
 

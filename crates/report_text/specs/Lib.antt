@@ -1,4 +1,3 @@
-pub mod CollisionLine
 pub mod ReadBack
 pub mod ReportFile
 pub mod ReportLine

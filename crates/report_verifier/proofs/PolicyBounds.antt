@@ -3,7 +3,7 @@ use Rattle.std.proofs.Common.{◌≡◌, ℕ, List, [], ◌∷◌, Bool, true, f
 use Rattle.std.specs.Prelude.{if◌then◌else◌}
 use Rattle.std.specs.Str.Lines.{lines}
 use Rattle.device_types.specs.{declared.{bounds.Bounds.Bounds, version.Version.{Version, TheVariants.{One, Two}}}}
-use Rattle.text_scan.specs.{declared.{fault_at.FaultAt.FaultAt, fault_kind.FaultKind.FaultKind}, Line.text_lines, LineFold.{lines_fold, text_fold}, Reader.{◌>>=◌, in_line}, Utf8.utf8_of, Word.{is_passed_over, words_of}}
+use Rattle.text_scan.specs.{declared.{fault_at.FaultAt.FaultAt, fault_kind.FaultKind.FaultKind}, LineFold.{text_lines, lines_fold, text_fold, utf8_of}, Reader.{◌>>=◌, in_line}, Word.{is_passed_over, words_of}}
 use Rattle.text_scan.specs.declared.fault_kind.FaultKind.TheVariants as kinds
 use Rattle.report_verifier.specs.{declared.{asked.Asked.Asked, draft.Draft.{Draft, TheVariants.{Empty, VersionKnown, ExecutableKnown, BoundsKnown, Whole}}, policy_line.PolicyLine.{PolicyLine, TheVariants.{VersionTwo, Executable, Output, Flag, Request, Challenge}}}, Policy.PolicyFields, PolicyGrammar.{policy_of, policy_line_of, bounds_with, draft_with, has_request, with_request, with_challenge, draft_after, draft_with_line, whole_policy}, Validity.are_valid_for}
 

@@ -1,7 +1,6 @@
 pub mod Acceptance
 pub mod Expectation
 pub mod Verdict
-pub mod VerdictName
 pub mod Collision
 pub mod Comparison
 pub mod Policy

@@ -5,7 +5,7 @@ use Rattle.std.specs.List.{list_any}
 use Rattle.std.specs.Str.{bytes_eq}
 use Rattle.std.specs.Str.Lines.{lines}
 use Rattle.device_types.specs.{declared.{bounds.Bounds.Bounds, version.Version.{Version, TheVariants.{One, Two}}}}
-use Rattle.text_scan.specs.{declared.{fault_at.FaultAt.FaultAt, fault_kind.FaultKind.{FaultKind, TheVariants.{Word, Missing, Order, Twice}}}, Ends.ends_of, LineFold.text_fold, Reader.◌>>=◌, Word.{words_of, next_word, end_of}, WordValue.{hex_block_of, number_of}}
+use Rattle.text_scan.specs.{declared.{fault_at.FaultAt.FaultAt, fault_kind.FaultKind.{FaultKind, TheVariants.{Word, Missing, Order, Twice}}}, WordValue.{ends_of, hex_block_of, number_of}, LineFold.text_fold, Reader.◌>>=◌, Word.{words_of, next_word, end_of}}
 use Rattle.text_scan.specs.declared.fault_kind.FaultKind.TheVariants as kinds
 use Rattle.report_verifier.specs.{declared.{flag_kind.FlagKind.{FlagKind, TheVariants.{Exec, Aux, Plain}}, asked.Asked.Asked, policy_line.PolicyLine.{PolicyLine, TheVariants.{VersionTwo, Executable, Output, Flag, Request, Challenge}}, draft.Draft.{Draft, TheVariants.{Empty, VersionKnown, ExecutableKnown, BoundsKnown, Whole}}}, Policy.PolicyFields, Validity.are_valid_for}
 

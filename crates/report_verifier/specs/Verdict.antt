@@ -1,8 +1,8 @@
 -- The verdict on a report: the first that holds.
-use Rattle.std.specs.Prelude.{◌==◌, ◌&&◌, ℕ, Bool, true, false, List, Option, Some, None, not, if◌then◌else◌}
-use Rattle.std.specs.Str.{bytes_eq}
+use Rattle.std.specs.{Prelude.{◌==◌, ◌&&◌, ℕ, Bool, true, false, List, Option, Some, None, not, if◌then◌else◌, [], ◌∷◌, codes}, Str.bytes_eq}
 use Rattle.device_types.specs.{declared.{bounds.Bounds.Bounds, version.Version.{Version, TheVariants.{One, Two}}}, Report.ReportFields}
 use Rattle.report_verifier.specs.{declared.{verdict.Verdict.{Verdict, TheVariants.{Accept, NoChallenge, VersionDiffers, ChalDiffers, CountDiffers, BoundsDiffer, ExecZero, AuxZero, MacDiffers}}, expect.Expect.Expect, flag_kind.FlagKind.{FlagKind, TheVariants.{Exec, Aux}}}, Expectation.expected_mac}
+use Rattle.named_value.specs.Names.{Names}
 
 abbrev pub same_version : Version → Version → Bool
 same_version One One = true
@@ -42,3 +42,24 @@ abbrev pub verdict :
     (List ℕ → List ℕ) → List ℕ → (ℕ → Option ℕ) → Option Expect → ReportFields → Verdict
 verdict digest key image None report = NoChallenge
 verdict digest key image (Some expect) report = verdict_on digest key image expect report
+
+-- The names of verdicts.
+
+abbrev pub verdict_name : Verdict → List ℕ
+verdict_name Accept = codes "accept"
+verdict_name NoChallenge = codes "no-challenge"
+verdict_name VersionDiffers = codes "version-differs"
+verdict_name ChalDiffers = codes "chal-differs"
+verdict_name CountDiffers = codes "count-differs"
+verdict_name BoundsDiffer = codes "bounds-differ"
+verdict_name ExecZero = codes "exec-zero"
+verdict_name AuxZero = codes "aux-zero"
+verdict_name MacDiffers = codes "mac-differs"
+
+abbrev pub verdict_names : Names Verdict
+verdict_names = record {
+  values =
+      Accept ∷ NoChallenge ∷ VersionDiffers ∷ ChalDiffers ∷ CountDiffers ∷ BoundsDiffer ∷ ExecZero
+      ∷ AuxZero ∷ MacDiffers ∷ [];
+  name = verdict_name;
+}

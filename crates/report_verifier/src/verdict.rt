@@ -4,7 +4,7 @@ ghost use Rattle.std.proofs.Common.{rules};
 ghost use Rattle.sha2.specs.Sha256.{sha256};
 ghost use Rattle.device_types.specs.Report.{fields_of};
 ghost use Rattle.mem_map.specs.Image.{byte_in};
-ghost use Rattle.report_verifier.specs.{Validity.are_valid_for, VerdictName.verdict_names, Verdict.{lacks_exec, lacks_aux, verdict_on, verdict}};
+ghost use Rattle.report_verifier.specs.{Validity.are_valid_for, Verdict.{verdict_names, lacks_exec, lacks_aux, verdict_on, verdict}};
 
 use crate::expect::Expect;
 use crate::expected_mac::expected_mac;

@@ -3,7 +3,7 @@ use Rattle.std.proofs.Common.{◌≡◌, ℕ, ◌+◌, ◌*◌, ◌<◌, ◌≤�
 use Rattle.std.specs.Prelude.{slice_index}
 use Rattle.device_types.specs.declared.event.Event.{Event}
 use Rattle.part_definitions.specs.Metadata.{little_endian}
-use Rattle.device_trace.specs.{Play.Play, Trace.trace}
+use Rattle.device_trace.specs.Trace.{Play, trace}
 use Rattle.mac_coverage.specs.Coverage.{call_length}
 use Rattle.mac_coverage.proofs.{Device.{Device, start_of}, KeptStored.four, PlaySteps.LastWroteHighWord, WordPlan.IsCounter}
 use Rattle.request_freshness.specs.Freshness.{kept_counter}

@@ -3,10 +3,10 @@ use Rattle.std.proofs.Common.{◌≡◌, ℕ, ◌<◌, ◌≤◌, Bool, true, fa
 use Rattle.std.specs.Prelude.{◌==◌, ◌&&◌, is_none, IsFalse}
 use Rattle.std.proofs.lemmas.Bool.{cases_lt, cond-true, eq-eqb}
 use Rattle.std.proofs.lemmas.List.{drop-append-le}
-use Rattle.device_types.specs.{declared.{access.Access.{Access, TheVariants.{Fetch, Read, Write}}, bus_record.BusRecord.BusRecord, rule.Rule.Rule}, SeenRecord.SeenHistory, Address.{Bytes, Contents}}
+use Rattle.device_types.specs.{declared.{access.Access.{Access, TheVariants.{Fetch, Read, Write}}, bus_record.BusRecord.BusRecord, rule.Rule.Rule}, ExecFlag.SeenHistory, Address.{Bytes, Contents}}
 use Rattle.part_definitions.specs.{Metadata.{counter_in, little_endian}, Request.ATTESTS, Hmac.Digest}
-use Rattle.device_trace.specs.{Play.Play, Start.{Start, with_key}, Trace.trace}
-use Rattle.mac_coverage.specs.{AttestedBytes.{AttestedBytes, decision_of}, Call.{last_call, mac_written}, Coverage.{IsDeviceKey, IsOfBytes, before_call, call_length}}
+use Rattle.device_trace.specs.{Trace.{Play, trace}, Start.{Start, with_key}}
+use Rattle.mac_coverage.specs.{AttestedBytes.{AttestedBytes, decision_of}, Coverage.{last_call, mac_written, IsDeviceKey, IsOfBytes, before_call, call_length}}
 use Rattle.mac_coverage.proofs.{Device.{Device, start_of}, KeptStored.kept-late, Plays.outcome_at, PlaySteps.{LastWroteHighWord, WritesHighWord}, Words.are_bytes}
 use Rattle.request_freshness.specs.Freshness.{Attests, first_word, ends_between_words, kept_counter, writes_high_word}
 use Rattle.request_freshness.proofs.{Moments.{CallMoments, attests-newer, left_by, call-moments}, CounterSteps.counter_step}

@@ -6,9 +6,9 @@ use Rattle.std.proofs.lemmas.Bool.{and_from, cases_Bool, cases_lt, cond-false, c
 use Rattle.device_types.specs.{declared.{bus_record.BusRecord.BusRecord, event.Event.Event, kind.Kind.TheVariants.Rom}, Kind.is_rom, Map.ROM_ENTRY, Address.Bytes}
 use Rattle.part_definitions.specs.{Metadata.{counter_in, little_endian, token_in}, Request.{ATTESTS, request_decision, right_token}, Hmac.Digest}
 use Rattle.part_definitions.proofs.CallItems.{first_pc}
-use Rattle.device_trace.specs.{Play.Play, Logs.{Logs, step_progress, vector_of, with_events}, Progress.InCall, Signals.step_kind, Step.{asks_reset, next_record}, Trace.{logs_after, trace}}
+use Rattle.device_trace.specs.{Trace.{Play, logs_after, trace}, Logs.{Logs, step_progress, vector_of, with_events}, Progress.InCall, Signals.step_kind, Step.{asks_reset, next_record}}
 use Rattle.trace_facts.proofs.SoundPlay.{logs_after-sound}
-use Rattle.mac_coverage.specs.{AttestedBytes.{AttestedBytes, counter_left, decision_of}, Call.{begins_call, ends_in_call, ends_refused, last_call}, Coverage.{MacCoversCall, attested_after, before_call, call_length, kept_after, kept_within}}
+use Rattle.mac_coverage.specs.{AttestedBytes.{AttestedBytes, counter_left, decision_of}, Coverage.{begins_call, ends_in_call, ends_refused, last_call, MacCoversCall, attested_after, before_call, call_length, kept_after, kept_within}}
 use Rattle.mac_coverage.proofs.{Calls.{attested-is, entry_at, log_at}, Device.{Device, start_of}, KeptStored.{kept-early, kept-late}, Plays.{outcome_at, play_stands, rom_kind, call_begun}, PlaySteps.{CallGoesOn, LastWroteHighWord, entry-kind, entry-pc, kept-is, plan_of}, Steps.{IsOfCall, OnCall, rom_step-of_call}, WordPlan.{IsCounter, planned_counter-is}}
 use Rattle.request_freshness.proofs.Untouched.{other_step-leaves, refused_step-leaves}
 

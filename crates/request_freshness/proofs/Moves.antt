@@ -5,9 +5,9 @@ use Rattle.std.specs.Str.{bytes_eq}
 use Rattle.std.proofs.lemmas.Bool.{cases_Bool, cond-false, cond-true, eqb-true, not-false}
 use Rattle.std.proofs.lemmas.List.{take-append-drop}
 use Rattle.std.proofs.lemmas.Slice.Eq.{bytes_eq-Decides}
-use Rattle.device_types.specs.{declared.event.Event.Event, SeenRecord.SeenHistory, Address.{Bytes, Contents}}
+use Rattle.device_types.specs.{declared.event.Event.Event, ExecFlag.SeenHistory, Address.{Bytes, Contents}}
 use Rattle.part_definitions.specs.{Metadata.{counter_in, kept_bytes, little_endian, token_in}, Request.{ATTESTS, right_token, request_decision}, Hmac.Digest}
-use Rattle.device_trace.specs.{Play.Play, Start.with_key, Trace.byte_after}
+use Rattle.device_trace.specs.{Trace.{Play, byte_after}, Start.with_key}
 use Rattle.mac_coverage.specs.{AttestedBytes.{AttestedBytes, counter_left, decision_of}, Coverage.{IsDeviceKey, IsOfBytes}}
 use Rattle.mac_coverage.proofs.{Device.{Device, start_of}, KeptStored.four, WordPlan.IsCounter}
 use Rattle.request_freshness.specs.Freshness.{IsRightlyRequested, kept_counter}

@@ -1,9 +1,9 @@
 -- Closed plays at which the laws are computed.
 use Rattle.std.specs.Prelude.{ℕ, [], ◌∷◌, Option, length}
-use Rattle.word_arith.specs.Word16.{Word16}
+use Rattle.word_arith.specs.Number.{Word16}
 use Rattle.device_types.specs.{declared.event.Event.TheVariants.{Dma, Reset}, Map.COUNTER, Address.Contents}
-use Rattle.device_trace.specs.{Example.{counting_words, event_after, program_of, quiet_steps, start_with}, Trace.trace, Play.Play}
-use Rattle.mac_coverage.specs.Call.{last_call, mac_written}
+use Rattle.device_trace.specs.{Example.{counting_words, event_after, program_of, quiet_steps, start_with}, Trace.{trace, Play}}
+use Rattle.mac_coverage.specs.Coverage.{last_call, mac_written}
 use Rattle.request_freshness.specs.Freshness.{first_word, kept_counter}
 
 -- MOV #2200,SP; DINT; CALL #A000; a jump to the call: attests again and again; the counter of the

@@ -1,10 +1,10 @@
 -- The counter that the device keeps, and the requests that it attests, over a whole play.
 use Rattle.std.specs.Prelude.{◌≡◌, ◌<◌, ◌≤◌, ◌==◌, ◌&&◌, ◌+◌, ◌/◌, ◌++◌, ℕ, Bool, false, List, [], ◌∷◌, length, Option, Some, None, IsTrue, IsFalse, is_none}
-use Rattle.word_arith.specs.Word16.{Word16}
+use Rattle.word_arith.specs.Number.{Word16}
 use Rattle.device_types.specs.{declared.{access.Access.{Access, TheVariants.Write}, bus_record.BusRecord.BusRecord}, Map.KEPT_COUNTER, Report.ReportFields, Address.Bytes}
 use Rattle.part_definitions.specs.{Metadata.{counter_bytes, little_endian, token_in}, Region.metadata_bytes, Request.{ATTESTS, right_token}, Hmac.Digest}
-use Rattle.device_trace.specs.{Start.Start, Text.last_report, Trace.{trace, byte_after}, Play.Play}
-use Rattle.mac_coverage.specs.{Call.{ends_in_call, ends_refused, last_call, mac_written}, Coverage.{call_length, kept_after}}
+use Rattle.device_trace.specs.{Start.Start, Text.last_report, Trace.{trace, byte_after, Play}}
+use Rattle.mac_coverage.specs.Coverage.{ends_in_call, ends_refused, last_call, mac_written, call_length, kept_after}
 
 -- the counter that is kept after a play, and the one of the request in the metadata
 abbrev pub kept_counter : Start → Play → ℕ

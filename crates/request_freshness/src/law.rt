@@ -1,6 +1,6 @@
 ghost use Rattle.std.specs.Prelude.{◌≡◌, ◌++◌, ◌<◌, ◌≤◌, ◌∷◌, ℕ, Bool, IsFalse, List};
-ghost use Rattle.device_types.specs.{SeenRecord.SeenHistory, declared.event.Event.Event, Address.{Contents, Bytes}};
-ghost use Rattle.device_trace.specs.{Report.EachReport, Start.with_key, Trace.trace, Play.Play};
+ghost use Rattle.device_types.specs.{ExecFlag.SeenHistory, declared.event.Event.Event, Address.{Contents, Bytes}};
+ghost use Rattle.device_trace.specs.{Report.EachReport, Start.with_key, Trace.{trace, Play}};
 ghost use Rattle.mac_coverage.specs.Coverage.{IsDeviceKey, IsOfBytes};
 ghost use Rattle.request_freshness.specs.Freshness.{Attests, BeganAfter, IsRightlyRequested, TellsNewCounter, WasUnderWay, ends_between_words, kept_counter};
 ghost use Rattle.part_definitions.specs.Hmac.{Digest};

@@ -3,7 +3,7 @@ use Rattle.std.proofs.Common.{◌≡◌, ◌<◌, ◌≤◌, ◌+◌, ◌-◌, �
 use Rattle.std.specs.Prelude.{if◌then◌else◌}
 use Rattle.std.proofs.lemmas.Bool.{true≢false}
 use Rattle.debug_session.specs.{Request.most_steps, Cause.ahead, Sight.{Sight, View}}
-use Rattle.session_laws.specs.Gone.{next_boundary}
+use Rattle.session_laws.specs.DebuggerSecrecy.{next_boundary}
 
 module _ (view : View) where
   abbrev reach : ℕ → ℕ → ℕ

@@ -6,7 +6,7 @@ use Rattle.std.proofs.lemmas.List.{append-nil}
 use Rattle.debug_link.specs.Conversation.{Answer}
 use Rattle.debug_session.specs.{Command.command_of, Request.most_steps, declared.{command.{Command.{Command, TheVariants.Go}, Going.Going, Way.{Way, TheVariants.{Ahead, Back}}}, stop.Stop.{Stop, TheVariants.{Begin, End, Interrupted}}}, Cause.cause, Going.{Standing, lies_between, seek_of, where_to}, Place.{Run, view_of}, Session.{Session, answer_of, goes, lines_to, reply, stands_at, told_lines}}
 use Rattle.debug_session.proofs.Between.{between-is}
-use Rattle.session_laws.specs.{EarlyEnd.{EndsEarly, LedTo, MayEndEarly}, FirstStop.HasStopped, StepBack.MayStandAt, ToldLines.TellsBetween}
+use Rattle.session_laws.specs.{EarlyEnd.{EndsEarly, LedTo, MayEndEarly, TellsBetween}, FirstStop.HasStopped, StepBack.MayStandAt}
 use Rattle.session_laws.proofs.{FirstStops.{stops-first, stops-last}, Sessions.gone-stands, ToldPieces.tells-between}
 
 module _ (run : Run) (session : Session) (stands : MayStandAt (view_of run) session.place) where

@@ -5,7 +5,7 @@ use Rattle.device_types.specs.declared.rule.Rule.{Rule}
 use Rattle.printed_lines.specs.Line.{reset_line}
 use Rattle.debug_link.specs.{Console.console, declared.connection.Connection.TheVariants.Open}
 use Rattle.debug_session.specs.{declared.{stop.Stop.{Stop, TheVariants.Refused}, command.{Command.{Command, TheVariants.{Registers, Memory, Go, Monitor}}, Going.Going, Way.{Way, TheVariants.{Ahead, Back}}}, request.Request.{Request, TheVariants.{Flags, Play as PlayText, Trace}}}, Command.command_of, Request.most_steps, Cause.{ahead, refusal}, Going.{Standing, interrupted, where_to}, Monitor.{flags_text, request_text}, Session.{Session, after_request, answer_of, goes, lines_to, reply, says, stands_at, refusal_warning}, Shown.{memory_body, registers_shown}, Sight.View}
-use Rattle.session_laws.specs.Gone.{next_boundary}
+use Rattle.session_laws.specs.DebuggerSecrecy.{next_boundary}
 use Rattle.session_laws.proofs.{Boundaries.boundary-behind, SameSights.{IsSameTo, memory-still, refused-same, texts-same, told-same}, SameWay.{gone-same, gone-tells}}
 
 module _ (last : ℕ) (left right : View) (same : IsSameTo last left right) where

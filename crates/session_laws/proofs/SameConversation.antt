@@ -3,8 +3,8 @@ use Rattle.std.proofs.Common.{◌≡◌, ◌++◌, ◌∙◌, ℕ, zero, suc, Li
 use Rattle.std.specs.Prelude.{codes}
 use Rattle.device_types.specs.Address.{Bytes}
 use Rattle.source_server.specs.HeldLine.{short_line}
-use Rattle.device_trace.specs.{Play.Play, Start.Start, Trace.released_words}
-use Rattle.key_isolation.specs.{Agreement.{ReleaseAlike, SameButKey}, Keyless.keyless}
+use Rattle.device_trace.specs.{Trace.{Play, released_words}, Start.Start}
+use Rattle.key_isolation.specs.Keyless.{ReleaseAlike, SameButKey, keyless}
 use Rattle.key_isolation.proofs.{Hiding.open_start, TwoKeys.one_keyless}
 use Rattle.session_laws.proofs.{WithoutKey.{Released, released_before}, Later.GoesOn, SameLiveAnswer.{IsAnsweredAlike, answered-alike, standing-same}, SameRuns.same_without_key}
 use Rattle.device_live.specs.{Answer.{Answer, or_refusal, run_of, standing_line}, Conversation.{Talk, answer_to, talk_of, with_answer, with_line}, Life.{Life, play_lived}}

@@ -8,7 +8,7 @@ use Rattle.printed_lines.specs.Line.{place_line}
 use Rattle.text_scan.specs.{Reader.◌>>=◌, Word.{is_passed_over, words_of}, declared.fault_kind.FaultKind.FaultKind}
 use Rattle.device_trace.specs.Start.{Start}
 use Rattle.debug_session.specs.Place.{Run as PlayedRun, logs_at}
-use Rattle.device_live.specs.{Answer.{Answer, answer_of, or_refusal, run_of, says, standing_line, tells}, Conversation.answer_to, Life.{Life, lines_since}, LiveLine.{LiveLine, Happens, Run, Registers, Memory, live_line_of}, StateLines.{memory_text, registers_text}}
+use Rattle.device_live.specs.{Answer.{Answer, answer_of, or_refusal, run_of, says, standing_line, tells, memory_text, registers_text}, Conversation.answer_to, Life.{Life, lines_since}, LiveLine.{LiveLine, Happens, Run, Registers, Memory, live_line_of}}
 use Rattle.session_laws.proofs.{Later.{GoesOn, LeadsOn, goes-nowhere, happening-goes}, SameRuns.{SameRuns, bytes-same}}
 
 -- so many steps are told alike

@@ -7,7 +7,7 @@ use Rattle.std.proofs.lemmas.Bool.{cases_Bool, cond-false, cond-true, ne_eqb}
 use Rattle.hex.specs.Hex.{encode_lower}
 use Rattle.word_arith.specs.declared.size.Size.TheVariants.{Byte}
 use Rattle.device_types.specs.declared.event.Event.{Event}
-use Rattle.device_trace.specs.{Logs.Logs, Play.Play, Signals.number_read, Start.Start, Text.{end_line_after, lines_of, play_text}, Trace.play_of}
+use Rattle.device_trace.specs.{Logs.Logs, Trace.{Play, play_of}, Signals.number_read, Start.Start, Text.{end_line_after, lines_of, play_text}}
 use Rattle.trace_files.specs.TraceText.{trace_text}
 use Rattle.debug_link.specs.{Console.console, Conversation.Answer, declared.connection.Connection.TheVariants.Open}
 use Rattle.debug_session.specs.{Request.most_steps, Monitor.{flags_text as flags_here, last_lines, texts_from}, Place.{Run, is_shown, logs_at, play_to, sight_at, view_of}, Session.{Session, says}, Shown.{byte_and, bytes_or, bytes_shown, memory_body, registers_shown}, Sight.Sight}

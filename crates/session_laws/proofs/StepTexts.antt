@@ -2,7 +2,7 @@
 use Rattle.std.proofs.Common.{◌≡◌, ◌≤◌, ◌<◌, ◌+◌, ◌∙◌, ◌++◌, ℕ, zero, suc, List, [], ◌∷◌, length, refl, ap, sym, arith, append_assoc}
 use Rattle.std.proofs.lemmas.List.{append-nil}
 use Rattle.device_types.specs.declared.event.Event.{Event}
-use Rattle.device_trace.specs.{Play.Play, Start.Start, Text.lines_of, Trace.play_of}
+use Rattle.device_trace.specs.{Trace.{Play, play_of}, Start.Start, Text.lines_of}
 use Rattle.trace_files.specs.{LineText.trace_line, declared.trace_line.TraceLine.TraceLine, TraceText.{next_line, trace_lines, trace_text}}
 use Rattle.debug_session.specs.{Request.most_steps, Monitor.texts_from, Place.{Run, logs_at, play_to, step_sight, view_of}, Sight.{StepSight, View}}
 use Rattle.debug_session.proofs.Views.{next-at}

@@ -6,7 +6,7 @@ use Rattle.std.proofs.lemmas.List.Folds.{concat-append}
 use Rattle.device_trace.specs.Text.{lines_of}
 use Rattle.debug_link.specs.Console.{MOST_TEXT, console, console_bodies, text_body}
 use Rattle.debug_session.specs.{Request.most_steps, Place.{Run, play_to, view_of}, Session.told_lines}
-use Rattle.session_laws.specs.ToldLines.{TellsBetween}
+use Rattle.session_laws.specs.EarlyEnd.{TellsBetween}
 use Rattle.session_laws.proofs.StepTexts.{lines-more}
 
 -- the bodies of a text are those of its pieces

@@ -7,7 +7,7 @@ use Rattle.word_arith.specs.declared.size.Size.TheVariants.{Byte}
 use Rattle.device_types.specs.{declared.{access.Access.TheVariants.Read, bus_record.BusRecord.BusRecord, event.Event.Event}, Access.without_number, Map.{AUX_WORD, EXEC_WORD, key_region, lies_in, stack_region}}
 use Rattle.part_definitions.specs.Memory.{ShownFlags}
 use Rattle.printed_lines.specs.Line.{end_line}
-use Rattle.device_trace.specs.{Blank.{blank, blank_record, touches_secrets}, Logs.{Logs, aux_of, exec_of}, Play.Play, Progress.{Progress, Held, Runs, InCall, last_registers, next_pc_of, stands_at_boundary}, Signals.number_read, Start.Start, Step.next_record, Text.{lines_of, lines_of_step}, Trace.{logs_after, released_words, trace}}
+use Rattle.device_trace.specs.{Blank.{blank, blank_record, touches_secrets}, Logs.{Logs, aux_of, exec_of}, Trace.{Play, logs_after, released_words, trace}, Progress.{Progress, Held, Runs, InCall, last_registers, next_pc_of, stands_at_boundary}, Signals.number_read, Start.Start, Step.next_record, Text.{lines_of, lines_of_step}}
 use Rattle.key_isolation.proofs.{FlagBlank.exec-blank, Hiding.{flags_of-hide, hide, hide_progress, last_registers-hide, next_pc_of-hide, open_start}, Induction.{play_hides, releases_before}, Reading.value_read-hide, TextBlank.lines_of-hide}
 use Rattle.trace_files.specs.{LineText.trace_line, TraceText.{next_line, trace_lines}}
 use Rattle.trace_files.proofs.{SameSight.shape-told, SameText.lines_keyless}

@@ -1,8 +1,19 @@
 -- A way that an interrupt ends early.
-use Rattle.std.specs.Prelude.{◌≡◌, ◌≤◌, ◌⊎◌, ◌++◌, ℕ, true, List, [], ◌∷◌, Option, None, codes}
-use Rattle.debug_link.specs.{Conversation.Answer, declared.connection.Connection.TheVariants.Open}
-use Rattle.debug_session.specs.{Place.{Run, view_of}, Session.{Session, reply}, declared.stop.Stop.TheVariants.Interrupted}
-use Rattle.session_laws.specs.ToldLines.{TellsBetween}
+use Rattle.std.specs.{Prelude.{◌≡◌, ◌≤◌, ◌⊎◌, ◌++◌, ℕ, true, List, [], ◌∷◌, Option, None, codes, map}, List.concat}
+use Rattle.debug_link.specs.{Conversation.Answer, declared.connection.Connection.TheVariants.Open, Console.text_body}
+use Rattle.debug_session.specs.{Place.{Run, view_of, play_to}, Session.{Session, reply}, declared.stop.Stop.TheVariants.Interrupted}
+use Rattle.device_trace.specs.Text.{lines_of}
+
+-- Packets that hold the lines of some steps.
+
+-- these packets' bodies are those of pieces of text, which joined are the lines of the steps from
+-- one place to another: the lines of a play up to the later place begin with those up to the
+-- earlier one, and end with these
+pub record TellsBetween (run : Run) (from to : ℕ) (bodies : List (List ℕ)) : Type 0 where
+  pub pieces : List (List ℕ)
+  pub bodies_are : bodies ≡ map text_body pieces
+  pub lines : lines_of run.start (play_to run to)
+      ≡ lines_of run.start (play_to run from) ++ concat pieces
 
 -- a way from one place towards another led to here: ahead, and these packets tell the lines of the
 -- steps between; or back, and none is told

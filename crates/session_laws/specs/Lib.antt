@@ -1,8 +1,6 @@
-pub mod Gone
 pub mod DebuggerSecrecy
 pub mod EarlyEnd
 pub mod FirstStop
 pub mod ShownPlay
 pub mod StepBack
-pub mod ToldLines
 pub mod LivingSecrecy

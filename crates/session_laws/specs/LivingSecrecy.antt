@@ -1,6 +1,6 @@
 -- Two devices that answer lines alike.
 use Rattle.std.specs.Prelude.{◌≡◌, ℕ, List, drop}
-use Rattle.device_trace.specs.{Play.Play, Start.Start}
+use Rattle.device_trace.specs.{Trace.Play, Start.Start}
 use Rattle.device_live.specs.{Conversation.{conversation, talk_of}, Life.play_lived}
 
 -- both have put the same, of it the same of the steps, and live on from the same life; and at the

@@ -4,7 +4,7 @@ use Rattle.std.specs.Fmt.{decimal}
 use Rattle.hex.specs.Hex.{encode_lower}
 use Rattle.word_arith.specs.declared.size.Size.TheVariants.{Byte}
 use Rattle.printed_lines.specs.Line.{flag_digit}
-use Rattle.device_trace.specs.{Logs.{Logs, aux_of, exec_of}, Play.Play, Progress.last_registers, Signals.number_read, Start.Start, Text.play_text, Trace.logs_after}
+use Rattle.device_trace.specs.{Logs.{Logs, aux_of, exec_of}, Trace.{Play, logs_after}, Progress.last_registers, Signals.number_read, Start.Start, Text.play_text}
 use Rattle.trace_files.specs.TraceText.{trace_text}
 use Rattle.debug_link.specs.{Console.console, declared.connection.Connection.TheVariants.Open}
 use Rattle.debug_session.specs.{Request.most_steps, declared.{command.Command.{Command, TheVariants.{Memory, Monitor, Registers}}, request.Request.{Request, TheVariants.{Flags, Play as PlayText, Steps, Trace}}}, Place.{Run, is_shown, view_of}, Session.{Session, answer_of}, Shown.registers_bytes}

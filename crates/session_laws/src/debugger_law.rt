@@ -1,10 +1,10 @@
 ghost use Rattle.std.specs.Prelude.{ℕ, List};
-ghost use Rattle.word_arith.specs.Word16.{Word16};
+ghost use Rattle.word_arith.specs.Number.{Word16};
 ghost use Rattle.device_types.specs.declared.event.Event.{Event};
 ghost use Rattle.device_trace.specs.Start.{Start};
-ghost use Rattle.key_isolation.specs.{Agreement.{ReleaseAlike, SameButKey}, Keyless.keyless};
+ghost use Rattle.key_isolation.specs.Keyless.{ReleaseAlike, SameButKey, keyless};
 ghost use Rattle.debug_link.specs.Conversation.{Input};
-ghost use Rattle.session_laws.specs.{Gone.steps_gone, DebuggerSecrecy.{TellsTheSame, run_of}};
+ghost use Rattle.session_laws.specs.DebuggerSecrecy.{steps_gone, TellsTheSame, run_of};
 
 /// For every start and script, and whatever comes: behind each input a debugger of a device has put
 /// what it puts of the same device without its key, whose calls release the words that they release

@@ -2,7 +2,7 @@ ghost use Rattle.std.specs.Prelude.{◌≤◌, ◌-◌, ℕ, List, Option};
 ghost use Rattle.device_trace.specs.Trace.{play_of};
 ghost use Rattle.debug_session.specs.{Request.most_steps, declared.command.{Going.{Going, TheVariants.Step}, Way.TheVariants.{Ahead, Back}}, Cause.cause, Going.{seek_of, where_to}, Place.{Run, view_of}, Session.{Session, told_lines}, Sight.View, Stops.Stops};
 ghost use Rattle.debug_link.specs.Conversation.{Input};
-ghost use Rattle.session_laws.specs.{EarlyEnd.MayEndEarly, FirstStop.{IsFirstStop, IsLastStop}, ShownPlay.ShowsPlay, StepBack.{HasStepped, IsTakenBack, MayStandAt, session_after}, ToldLines.TellsBetween};
+ghost use Rattle.session_laws.specs.{EarlyEnd.{MayEndEarly, TellsBetween}, FirstStop.{IsFirstStop, IsLastStop}, ShownPlay.ShowsPlay, StepBack.{HasStepped, IsTakenBack, MayStandAt, session_after}};
 
 /// Going forwards from a place, by whatever command, leads to the first place behind it where there
 /// is a cause to stop, and tells this cause; where there is none it leads to the last place of all.

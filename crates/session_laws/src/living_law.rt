@@ -1,7 +1,7 @@
 ghost use Rattle.std.specs.Prelude.{ℕ, List};
-ghost use Rattle.word_arith.specs.Word16.{Word16};
+ghost use Rattle.word_arith.specs.Number.{Word16};
 ghost use Rattle.device_trace.specs.Start.{Start};
-ghost use Rattle.key_isolation.specs.{Agreement.{ReleaseAlike, SameButKey}, Keyless.keyless};
+ghost use Rattle.key_isolation.specs.Keyless.{ReleaseAlike, SameButKey, keyless};
 ghost use Rattle.session_laws.specs.LivingSecrecy.{AnswersAlike, lived_behind};
 
 /// For every start, and whatever lines come: behind each of them a device has put what the same

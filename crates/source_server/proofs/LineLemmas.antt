@@ -4,7 +4,7 @@ use Rattle.std.specs.Prelude.{OnOk, IfErr, Result, nat_eq, slice_index}
 use Rattle.std.specs.Str.Lines.{strip_carriage_return}
 use Rattle.std.proofs.lemmas.Bool.{cases_Bool}
 use Rattle.std.proofs.lemmas.List.{append-nil, get_or-take, length-take}
-use Rattle.source_server.specs.{declared.halt.Halt.Halt, HeldLine.{HoldsRest, ended_line, last_line, short_line, with_piece}, LineCut.{LineCut, all_lines, cut_of, no_lines, whole_lines, with_byte, with_bytes, with_last}, LineResponder.{LinePromise, Settles, Tells}, Lines.{HoldsCut, StopsAmong, TellsPiece}}
+use Rattle.source_server.specs.{declared.halt.Halt.Halt, HeldLine.{HoldsRest, ended_line, last_line, short_line, with_piece}, LineCut.{LineCut, all_lines, cut_of, no_lines, whole_lines, with_byte, with_bytes, with_last}, Lines.{LinePromise, Settles, Tells, HoldsCut, StopsAmong, TellsPiece}}
 use Rattle.source_server.proofs.Pieces.{cut_anywhere, held_line, plain_piece}
 
 -- lines only become more

@@ -1,7 +1,7 @@
 -- What the end of a serving tells of its source and of where its responder stopped.
 use Rattle.std.proofs.Common.{◌≡◌, ◌≤◌, ◌<◌, ◌⊎◌, ◌+◌, ◌++◌, ℕ, List, [], Option, Some, None, drop, length, take, refl, arith, length-append, inl, inr}
 use Rattle.std.specs.Prelude.{option_map}
-use Rattle.outside_edge.specs.Count.{Rose}
+use Rattle.outside_edge.specs.Calls.{Rose}
 use Rattle.outside_edge.specs.declared.source.Source as source
 use Rattle.source_server.specs.{declared.{halt.Halt.Halt, served.Served.{Served, TheVariants.{Done, Spent, ReadFault, WriteFault, Own}}}, Responder.Promise, Serving.{EndsSo, Serves, StopsSo, served_of}, Taken.{KeepsLimit, joined_pieces, most_input}}
 use Rattle.source_server.specs.declared.halt.Halt.TheVariants as halt

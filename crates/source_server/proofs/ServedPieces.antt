@@ -3,7 +3,7 @@ use Rattle.std.proofs.Common.{◌≡◌, ◌≤◌, ◌<◌, ◌+◌, ◌-◌, �
 use Rattle.std.specs.Prelude.{IfSome, Result, option_map}
 use Rattle.std.proofs.lemmas.List.{append-nil, length-take-le}
 use Rattle.std.proofs.lemmas.List.Elements.{All-cons, All-nil}
-use Rattle.outside_edge.specs.{Count.Rose, Source.IsAsked}
+use Rattle.outside_edge.specs.{Calls.Rose, Source.IsAsked}
 use Rattle.outside_edge.specs.declared.source.Source as source
 use Rattle.outside_edge.proofs.Counts.{rose_since}
 use Rattle.source_server.specs.{declared.{halt.Halt.Halt, served.Served.Served}, Responder.{Answers, Ends, Moment, Promise}, Serving.{EndsSo, Serves, StopsSo, served_after, served_of}, Taken.{Gave, HasGiven, IsAtEnd, IsLeft, joined_pieces, most_input}}

@@ -1,6 +1,27 @@
 -- What is answered of bytes that are cut into lines.
 use Rattle.std.specs.Prelude.{◌≡◌, ◌++◌, ℕ, List, Option, Result, OnOk, IfErr}
-use Rattle.source_server.specs.{declared.{halt.Halt.Halt, lines.Lines.Lines}, HeldLine.HoldsRest, LineCut.{LineCut, all_lines, cut_of, whole_lines, with_bytes}, LineResponder.LinePromise, Responder.{Moment, Promise}}
+use Rattle.source_server.specs.{declared.{halt.Halt.Halt, lines.Lines.Lines}, HeldLine.HoldsRest, LineCut.{LineCut, all_lines, cut_of, whole_lines, with_bytes}, Responder.{Moment, Promise}}
+
+-- What one who answers lines promises.
+
+-- What a moment may be behind lines, the newest first: they were answered, and what is due may be
+-- held back; all that is due to them was put; or it stopped so at the newest of them.
+pub record LinePromise (X Own : Type 0) : Type 1 where
+  pub told : X → List (List ℕ) → Type 0
+  pub answered : X → List (List ℕ) → Type 0
+  pub stopped : X → List (List ℕ) → Halt Own → Type 0
+
+-- what came of these lines
+pub record Tells {X Own : Type 0} (promise : LinePromise X Own) (now : X) (lines : List (List ℕ))
+    (result : Result Unit (Halt Own)) : Type 0 where
+  pub goes_on : OnOk result (promise.told now lines)
+  pub stops : IfErr result (λ halt. promise.stopped now lines halt)
+
+-- and where what was held back was put
+pub record Settles {X Own : Type 0} (promise : LinePromise X Own) (now : X)
+    (lines : List (List ℕ)) (result : Result Unit (Halt Own)) : Type 0 where
+  pub goes_on : OnOk result (promise.told now lines × promise.answered now lines)
+  pub stops : IfErr result (λ halt. promise.stopped now lines halt)
 
 -- the lines of a cut were answered, and what is held stands for the rest
 pub record HoldsCut {X O : Type 0} (promise : LinePromise X O) (held : Option (List ℕ)) (now : X)

@@ -1,7 +1,7 @@
 -- How a source is served: what is taken of it, what was answered, and why it ended.
 use Rattle.std.specs.Prelude.{◌≡◌, ◌⊎◌, ℕ, List, [], drop, length, take, Result, Ok, Err}
-use Rattle.outside_edge.specs.declared.source.Source as source
 use Rattle.source_server.specs.{declared.{halt.Halt.Halt, served.Served.{Served, TheVariants.{Done, Spent, ReadFault, WriteFault, Own}}}, Responder.Promise, Taken.{HasGiven, IsAtEnd, IsAtFault, IsLeft, joined_pieces, most_input}}
+use Rattle.outside_edge.specs.declared.source.Source as source
 use Rattle.source_server.specs.declared.halt.Halt.TheVariants as halt
 
 -- where a responder stopped, and at the end of its source
@@ -41,3 +41,10 @@ pub record Serves {R X O : Type 0} (r : source.Ghosts R) (promise : Promise X O)
   pub pieces : List (List ℕ)
   pub given : HasGiven r old new pieces
   pub ends : EndsSo r promise old new now pieces served
+
+-- The outside of one who serves a source.
+
+-- where bytes come from, and where answers go
+pub record Ports (R W : Type 0) : Type 0 where
+  pub source : R
+  pub sink : W

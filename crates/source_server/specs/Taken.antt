@@ -1,7 +1,7 @@
 -- What is taken of a source, call by call.
 use Rattle.std.specs.Prelude.{◌≡◌, ◌<◌, ◌≤◌, ◌+◌, ◌++◌, ℕ, List, [], ◌∷◌, length, map, option_map, IfSome}
 use Rattle.std.specs.List.{All}
-use Rattle.outside_edge.specs.Count.{Rose}
+use Rattle.outside_edge.specs.Calls.{Rose}
 use Rattle.outside_edge.specs.declared.source.Source as source
 
 -- the most bytes that are taken of a source: 1 GiB

@@ -3,7 +3,7 @@ use crate::halt::Halt;
 /// One who answers lines as they come, at an edge where its answers go.
 pub trait LineResponder<E> {
     ghost use Rattle.std.specs.Prelude.{◌≡◌, ℕ, List, ◌∷◌, option_map};
-    ghost use Rattle.source_server.specs.{HeldLine.short_line, LineResponder.{LinePromise, Settles, Tells}, Responder.Moment};
+    ghost use Rattle.source_server.specs.{HeldLine.short_line, Lines.{LinePromise, Settles, Tells}, Responder.Moment};
 
     /// The ends of its own.
     type Own: Copy;

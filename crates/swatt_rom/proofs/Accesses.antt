@@ -7,7 +7,7 @@ use Rattle.std.specs.Prelude.{◌==◌, ◌+◌, ◌*◌, nat_lt, slice_index}
 use Rattle.device_types.specs.{declared.{access.Access.Access, bounds.Bounds.Bounds}, Map.{mac_region, DERIVED_KEY, INNER_DIGEST, KEPT_COUNTER}}
 use Rattle.part_definitions.specs.{BusAccess.{read_at, write_at}, Attestation.{CallItem, KeptWrite, DecisionWrite, DerivedKeyWrite, RegionRead, InnerDigestWrite, MacWrite, call_item, item_access, item_pc, bounds_read, decision_read, region_words, region_place, written_word, word_of_bytes, is_return, word_passed}}
 use Rattle.part_definitions.proofs.CallItems.{item_until_decision}
-use Rattle.swatt_rom.specs.{RomCall.{call_access, next_word}, RequestWords.read_place, Phase.{IsWrite, PhaseStandsFor, HasDecided}, declared.{decided.Decided.Decided, region_words.RegionWords.RegionWords, request_words.RequestWords.RequestWords, phase.Phase.{Phase, TheVariants.{ReadsRequest, WritesHighWord, WritesLowWord, WritesDecision, WritesDerivedKey, ReadsRegion, WritesInnerDigest, WritesMac}}}}
+use Rattle.swatt_rom.specs.{RomCall.{call_access, next_word}, Phase.{read_place, IsWrite, PhaseStandsFor, HasDecided}, declared.{decided.Decided.Decided, region_words.RegionWords.RegionWords, request_words.RequestWords.RequestWords, phase.Phase.{Phase, TheVariants.{ReadsRequest, WritesHighWord, WritesLowWord, WritesDecision, WritesDerivedKey, ReadsRegion, WritesInnerDigest, WritesMac}}}}
 use Rattle.hmac_core.specs.{Hash.Hash, declared.running_hmac.Hmac.Hmac}
 use Rattle.swatt_rom.proofs.{WordsPassed.region_in, Items.{item_after-request, item_after-high, item_after-low, item_after-decision, item_after-derived_key, item_after-region, item_after-inner_digest, item_after-mac}}
 

@@ -2,7 +2,7 @@
 use Rattle.std.proofs.Common.{◌≡◌, ◌++◌, ◌∷◌, [], ℕ, List, if◌then◌else◌, subst, sym, ap}
 use Rattle.part_definitions.specs.Attestation.{decision_read}
 use Rattle.hmac_core.specs.Hash.{Hash}
-use Rattle.swatt_rom.specs.{RomCall.{RomCall, NoCall, InCall, AfterCall, end_of_call, next_word, after_step, after_value}, Phase.{PhaseStandsFor, IsBeforeReturn}, State.StateStandsFor, declared.{phase.Phase.Phase, state.State.TheVariants.{Calls, Returns}}}
+use Rattle.swatt_rom.specs.{RomCall.{RomCall, NoCall, InCall, AfterCall, end_of_call, next_word, after_step, after_value}, Phase.{PhaseStandsFor, IsBeforeReturn}, Rom.StateStandsFor, declared.{phase.Phase.Phase, state.State.TheVariants.{Calls, Returns}}}
 use Rattle.swatt_rom.proofs.Accesses.{is_return-phase}
 
 module _ {D : Type 0} (hash : Hash D) where

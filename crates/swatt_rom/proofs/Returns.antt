@@ -7,7 +7,7 @@ use Rattle.word_arith.specs.declared.size.Size.TheVariants.{Word}
 use Rattle.part_definitions.specs.{BusAccess.read_at, Attestation.{ReturnRead, item_access, item_pc, is_return, call_item, bounds_read, decision_read, written_word}, Request.ATTESTS}
 use Rattle.part_definitions.proofs.CallItems.{item_after, item_after-is}
 use Rattle.hmac_core.specs.Hash.{Hash}
-use Rattle.swatt_rom.specs.{RomCall.{RomCall, NoCall, InCall, AfterCall, end_of_call, next_word, after_value, rom_access, rom_pc}, Phase.IsBeforeReturn, State.StateStandsFor, declared.{call_end.CallEnd.CallEnd, state.State.TheVariants.{Returns, Leaves}}}
+use Rattle.swatt_rom.specs.{RomCall.{RomCall, NoCall, InCall, AfterCall, end_of_call, next_word, after_value, rom_access, rom_pc}, Phase.IsBeforeReturn, Rom.StateStandsFor, declared.{call_end.CallEnd.CallEnd, state.State.TheVariants.{Returns, Leaves}}}
 use Rattle.swatt_rom.proofs.WordsPassed.{region_in}
 
 attests-return : (region decision count : ℕ) → decision ≡ ATTESTS → count ≡ 125 + region

@@ -1,10 +1,18 @@
 -- After which words a call is in a phase. `hash` is the digest: its function, and the bytes that a
 -- running one has taken.
-use Rattle.std.specs.Prelude.{◌≡◌, ◌==◌, ◌++◌, ◌+◌, ◌*◌, ℕ, List, length, slice_index, if◌then◌else◌, Option, None, Some}
-use Rattle.device_types.specs.declared.bounds.Bounds.{Bounds}
+use Rattle.std.specs.Prelude.{◌≡◌, ◌==◌, ◌++◌, ◌+◌, ◌*◌, ℕ, List, length, slice_index, if◌then◌else◌, Option, None, Some, ◌-◌, nat_lt}
+use Rattle.device_types.specs.{declared.bounds.Bounds.Bounds, Map.{key_region, metadata_region, KEPT_COUNTER}}
 use Rattle.hmac_core.specs.{Hash.Hash, Hmac.HmacStandsFor, declared.running_hmac.Hmac.Hmac}
-use Rattle.part_definitions.specs.{Attestation.{REQUEST_WORDS, DIGEST_WORDS, BEFORE_REGION, bounds_read, decision_read, region_words, metadata_read, region_read, call_key, decision_in, counter_word, inner_in, tag_in}, Hmac.Digest, Request.ATTESTS}
-use Rattle.swatt_rom.specs.{DigestWords.WritesDigest, declared.{decided.Decided.Decided, digest_words.DigestWords.DigestWords, region_words.RegionWords.RegionWords, phase.Phase.{Phase, TheVariants.{ReadsRequest, WritesHighWord, WritesLowWord, WritesDecision, WritesDerivedKey, ReadsRegion, WritesInnerDigest, WritesMac}}}}
+use Rattle.part_definitions.specs.{Attestation.{REQUEST_WORDS, DIGEST_WORDS, BEFORE_REGION, bounds_read, decision_read, region_words, metadata_read, region_read, call_key, decision_in, counter_word, inner_in, tag_in, KEY_WORDS, METADATA_WORDS}, Hmac.Digest, Request.ATTESTS}
+use Rattle.swatt_rom.specs.declared.{decided.Decided.Decided, digest_words.DigestWords.DigestWords, region_words.RegionWords.RegionWords, phase.Phase.{Phase, TheVariants.{ReadsRequest, WritesHighWord, WritesLowWord, WritesDecision, WritesDerivedKey, ReadsRegion, WritesInnerDigest, WritesMac}}}
+
+-- After which words the engine writes a word of a digest.
+
+-- it writes this digest, the first word of it after so many words
+pub record WritesDigest
+    (writes : DigestWords) (digest : List ℕ) (before : ℕ) (words : List ℕ) : Type 0 where
+  pub same_bytes : writes.bytes ≡ digest
+  pub same_length : length words ≡ before + writes.next
 
 -- how many words pass before the derived key is written: also the counter and the decision
 abbrev pub BEFORE_DERIVED_KEY : ℕ
@@ -105,3 +113,13 @@ pub record IsBeforeReturn (decision : ℕ) (words : List ℕ) : Type 0 where
 abbrev pub NextStandsFor : {D : Type 0} → Hash D → Phase D → Option ℕ → List ℕ → Type 0
 NextStandsFor hash phase None words = PhaseStandsFor hash phase words
 NextStandsFor hash phase (Some decision) words = IsBeforeReturn decision words
+
+-- Where a call reads before it decides.
+
+-- the place of the word that it reads after so many words
+abbrev pub read_place : ℕ → ℕ
+read_place count =
+    if nat_lt count KEY_WORDS then key_region.first + 2 * count
+    else if nat_lt count (KEY_WORDS + METADATA_WORDS)
+    then metadata_region.first + 2 * (count - KEY_WORDS)
+    else KEPT_COUNTER + 2 * (count - (KEY_WORDS + METADATA_WORDS))

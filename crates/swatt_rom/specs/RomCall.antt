@@ -1,7 +1,7 @@
 -- Where the engine is in a call of the attestation ROM, and what it does next.
 use Rattle.std.specs.Prelude.{◌++◌, ℕ, List, [], ◌∷◌, Option, Some, None, if◌then◌else◌}
 use Rattle.device_types.specs.{declared.access.Access.Access, Address.even}
-use Rattle.part_definitions.specs.{Attestation.{call_item, item_access, item_pc, bounds_read, decision_read, is_return, written_word, word_passed}, AddressSum.plus, Hmac.Digest}
+use Rattle.part_definitions.specs.{Attestation.{call_item, item_access, item_pc, bounds_read, decision_read, is_return, written_word, word_passed}, CpuRegister.plus, Hmac.Digest}
 use Rattle.swatt_rom.specs.declared.call_end.CallEnd.{CallEnd}
 
 pub data RomCall : Type 0 where

@@ -46,7 +46,7 @@ pub struct RequestWords {
 }
 
 impl RequestWords {
-    ghost use Rattle.swatt_rom.specs.RequestWords.{read_place};
+    ghost use Rattle.swatt_rom.specs.Phase.{read_place};
 
     pub fn new() -> RequestWords
         ensures { result.words.items ≡ [] }

@@ -23,7 +23,7 @@ pub enum State<D> {
 }
 
 impl<D: Digest32> State<D> {
-    ghost use Rattle.swatt_rom.specs.State.{StateStandsFor};
+    ghost use Rattle.swatt_rom.specs.Rom.{StateStandsFor};
 
     pub fn access(&self) -> Option<Access>
         ensures access { Answers (StateStandsFor D.hash) self.now

@@ -3,10 +3,10 @@ use Rattle.std.proofs.Common.{◌≡◌, ◌∙◌, ◌&&◌, ◌⊎◌, ℕ, Bo
 use Rattle.std.specs.Prelude.{◌==◌, not, nat_le, is_none, if◌then◌else◌}
 use Rattle.std.specs.Str.{bytes_eq}
 use Rattle.std.proofs.lemmas.Bool.{and_parts}
-use Rattle.device_types.specs.{SeenRecord.SeenHistory, declared.bus_record.BusRecord.BusRecord, Kind.is_rom, Map.ROM_EXIT, Address.{Bytes, Contents}}
+use Rattle.device_types.specs.{ExecFlag.SeenHistory, declared.bus_record.BusRecord.BusRecord, Kind.is_rom, Map.ROM_EXIT, Address.{Bytes, Contents}}
 use Rattle.part_definitions.specs.{Metadata.{counter_in, token_in, little_endian}, Request.{ATTESTS, request_decision, right_token}, Hmac.Digest}
-use Rattle.device_trace.specs.{Play.Play, Logs.{Logs, step_progress, with_events, with_record}, Start.{Start, with_key}, Step.next_record, Text.{denial_where, last_decision, last_denial}, Trace.{trace, logs_after}}
-use Rattle.mac_coverage.specs.{Call.{ends_in_call, ends_finished}, Coverage.{IsDeviceKey, IsOfBytes, MacCoversCall}}
+use Rattle.device_trace.specs.{Trace.{Play, trace, logs_after}, Logs.{Logs, step_progress, with_events, with_record}, Start.{Start, with_key}, Step.next_record, Text.{denial_where, last_decision, last_denial}}
+use Rattle.mac_coverage.specs.Coverage.{ends_in_call, ends_finished, IsDeviceKey, IsOfBytes, MacCoversCall}
 use Rattle.mac_coverage.proofs.{Covers.decision_after-finishes, Plays.mac_covers_call}
 
 abbrev pub IsDenial : ℕ → Type 0

@@ -7,7 +7,7 @@ use Rattle.word_arith.specs.declared.size.Size.TheVariants as sizes
 use Rattle.msp_decode.specs.{declared.{one.One.One as OneOp, constant.Gen.Gen, source.Source.Source, dest.Dest.Dest, instr.Instr.{Instr, TheVariants.{Two, One}}}, Completion.{source_form, words_of}, Spelling.{has_form, has_size, takes_result, writes_operand}}
 use Rattle.msp_decode.specs.declared.one.One.TheVariants as one
 use Rattle.msp_decode.specs.declared.source.Source.TheVariants as source
-use Rattle.part_definitions.specs.AddressSum.{plus}
+use Rattle.part_definitions.specs.CpuRegister.{plus}
 use Rattle.text_scan.specs.{declared.fault_kind.FaultKind.FaultKind, Reader.◌>>=◌}
 use Rattle.asm_text.specs.declared.body.Body.TheVariants as bodies
 use Rattle.asm_text.specs.declared.mnemonic.Mnemonic.TheVariants as mnemonics

@@ -5,7 +5,7 @@ use Rattle.std.proofs.lemmas.Bool.{le-leb, lt-leb, le-ltb, leb-true, leb-false, 
 use Rattle.std.proofs.Math.IntN.{+ℤ_idr}
 use Rattle.word_arith.specs.declared.size.Size.TheVariants as sizes
 use Rattle.msp_decode.specs.{declared.{cond.Cond.Cond, instr.Instr.TheVariants.Jump}, Spelling.has_range}
-use Rattle.part_definitions.specs.{AddressSum.plus, Instruction.jump_target}
+use Rattle.part_definitions.specs.{CpuRegister.plus, Instruction.jump_target}
 use Rattle.text_scan.specs.{declared.fault_kind.FaultKind.TheVariants.Range, Reader.◌>>=◌}
 use Rattle.asm_text.specs.declared.body.Body.TheVariants as bodies
 use Rattle.asm_text.specs.declared.mnemonic.Mnemonic.TheVariants as mnemonics

@@ -2,15 +2,15 @@
 use Rattle.std.proofs.Common.{◌∙◌, ℕ, ◌%◌, ◌<◌, Bool, true, false, List, [], ◌∷◌, ◌++◌, Option, Some, None, IfSome, Ok, length, append-nil, ap, subst, arith}
 use Rattle.std.specs.Prelude.{◌==◌, ◌^◌, if◌then◌else◌}
 use Rattle.std.specs.Option.{option_to_list}
-use Rattle.device_types.specs.{declared.{access.Access.{Access, TheVariants.Write}, bus_record.BusRecord.BusRecord, rule.Rule.Rule}, Report.ReportFields, SeenRecord.SeenHistory, Address.{Bytes, Contents}}
+use Rattle.device_types.specs.{declared.{access.Access.{Access, TheVariants.Write}, bus_record.BusRecord.BusRecord, rule.Rule.Rule}, Report.ReportFields, ExecFlag.SeenHistory, Address.{Bytes, Contents}}
 use Rattle.part_definitions.specs.{Request.ATTESTS, Serial.SERIAL_SEND, PeripheralRegister.covers, Hmac.Digest}
-use Rattle.device_trace.specs.{Play.Play, Logs.{Logs, exec_of, logged_byte}, Progress.next_pc_of, Start.{Start, with_key}, Step.next_record, Text.{byte_sent_by, byte_sent_in, report_of, report_where, report_in, denial_in, some_line, step_lines, lines_of, play_text, end_line_after}, Trace.logs_after}
+use Rattle.device_trace.specs.{Trace.{Play, logs_after}, Logs.{Logs, exec_of, logged_byte}, Progress.next_pc_of, Start.{Start, with_key}, Step.next_record, Text.{byte_sent_by, byte_sent_in, report_of, report_where, report_in, denial_in, some_line, step_lines, lines_of, play_text, end_line_after}}
 use Rattle.printed_lines.specs.Line.{sent_line, reset_line, report_line, denied_line}
 use Rattle.mac_coverage.specs.Coverage.{IsDeviceKey, IsOfBytes}
 use Rattle.mac_coverage.proofs.{MemoryBytes.{PowerOnBytes, byte_after-byte}, Words.are_bytes}
 use Rattle.report_text.specs.ReadBack.{IsPrintable}
 use Rattle.report_text.proofs.ReadLines.{ReadsAs, reads-none, reads-both, reads-whole, reads-report, reads-sent, reads-reset, reads-denied, reads-end}
-use Rattle.text_round_trip.specs.{PlayReports.play_reports, PlayReadBack.{FitsItsLines, IsPlayReadBack}}
+use Rattle.text_round_trip.specs.ReadBack.{play_reports, FitsItsLines, IsPlayReadBack}
 use Rattle.text_round_trip.proofs.{Decision.{IsDenial, last_denial-is}, PrintableReport.printable-report}
 
 -- what is sent is a byte

@@ -6,7 +6,7 @@ use Rattle.std.specs.Str.{IsAscii}
 use Rattle.std.specs.Str.Lines.{lines}
 use Rattle.std.proofs.lemmas.Bool.{and_parts, leb-true}
 use Rattle.std.proofs.lemmas.Str.{IsUtf8-from_ascii}
-use Rattle.text_scan.specs.{declared.fault_at.FaultAt.FaultAt, Line.{numbered_lines, text_lines}, Reader.{◌>>=◌, in_line}}
+use Rattle.text_scan.specs.{declared.fault_at.FaultAt.FaultAt, LineFold.{numbered_lines, text_lines}, Reader.{◌>>=◌, in_line}}
 use Rattle.text_scan.proofs.{FirstLine.{lines_cut, lines-line}, TextUtf8.utf8_of-whole}
 use Rattle.asm_text.specs.{declared.statement.Statement.Statement, Operand.all_of, Source.{statement_of, source_of}}
 use Rattle.text_round_trip.specs.{ReadBack.{AreNumerals, at_line, source_text, from_line}, StatementText.{Numerals, statement_text}, Writable.is_writable}

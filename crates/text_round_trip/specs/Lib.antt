@@ -3,5 +3,3 @@ pub mod Writable
 pub mod ReadBack
 pub mod Listing
 pub mod Example
-pub mod PlayReports
-pub mod PlayReadBack

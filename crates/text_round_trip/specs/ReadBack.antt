@@ -1,7 +1,10 @@
 -- What is written is read back.
-use Rattle.std.specs.Prelude.{◌≡◌, ◌<◌, ◌+◌, ◌++◌, ℕ, List, [], ◌∷◌, codes, Some}
+use Rattle.std.specs.{Prelude.{◌≡◌, ◌<◌, ◌+◌, ◌++◌, ℕ, List, [], ◌∷◌, codes, Some, ◌^◌, length, Ok}, Option.option_to_list}
 use Rattle.asm_text.specs.{declared.statement.Statement.Statement, Word.number_of}
 use Rattle.text_round_trip.specs.StatementText.{Numerals, statement_text}
+use Rattle.device_trace.specs.{Trace.{Play, logs_after}, Progress.next_pc_of, Start.Start, Text.{play_text, last_report}}
+use Rattle.report_text.specs.ReportFile.{reports_of}
+use Rattle.device_types.specs.Report.{ReportFields}
 
 -- each number is written as a numeral of it: decimal, or hexadecimal, with zeros in front or not
 abbrev pub AreNumerals : Numerals → Type 0
@@ -22,3 +25,22 @@ source_text numerals (statement ∷ rest) =
 abbrev pub from_line : ℕ → List Statement → List Statement
 from_line number [] = []
 from_line number (statement ∷ rest) = at_line number statement ∷ from_line (number + 1) rest
+
+-- The text of a play, read as a report file.
+
+-- The reports of a play.
+
+-- the reports that the steps of a play made, in the order of the steps
+unfoldable pub play_reports : Start → Play → List ReportFields
+play_reports start [] = []
+play_reports start (events ∷ play) =
+    play_reports start play ++ option_to_list (last_report start (events ∷ play))
+
+-- the numbers of steps and of the end fit the lines of a play's text
+pub record FitsItsLines (start : Start) (play : Play) : Type 0 where
+  pub steps : length play < 2 ^ 32
+  pub end : next_pc_of (logs_after start play).progress < 2 ^ 16
+
+-- the file of its text has its reports
+abbrev pub IsPlayReadBack : Start → Play → Type 0
+IsPlayReadBack start play = reports_of (play_text start play) ≡ Ok (play_reports start play)

@@ -3,7 +3,7 @@
 use Rattle.std.proofs.Common.{◌≡◌, ℕ, Bool, [], ◌∷◌, Option, Some, None, refl}
 use Rattle.device_types.specs.{declared.{access.Access.Access, kind.Kind.{Kind, TheVariants.{Boot, Cpu, Idle, Irq, Rom}}, rule.Rule.Rule}, ExecFlag.last_pc}
 use Rattle.part_definitions.specs.{CpuState.{CpuState, cpu_after}, FirstRule.first_rule}
-use Rattle.device_trace.specs.{Play.Play, Logs.{Logs, step_progress, progress_after, with_events, with_record}, Progress.{Progress, Held, next_pc_of, cpu_state_after, next_progress}, Signals.{step_kind, signals_at, signals_of}, Start.Start, Step.{record_of, next_record}, Trace.logs_after}
+use Rattle.device_trace.specs.{Trace.{Play, logs_after}, Logs.{Logs, step_progress, progress_after, with_events, with_record}, Progress.{Progress, Held, next_pc_of, cpu_state_after, next_progress}, Signals.{step_kind, signals_at, signals_of}, Start.Start, Step.{record_of, next_record}}
 
 -- what is said of a progress and the `pc` of the last record
 abbrev pub Claim : Type 1

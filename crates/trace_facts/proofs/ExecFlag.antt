@@ -3,9 +3,9 @@ use Rattle.std.proofs.Common.{◌≡◌, Bool, true, false, List, [], ◌∷◌,
 use Rattle.std.specs.Prelude.{◌==◌, ◌&&◌, is_some, if◌then◌else◌}
 use Rattle.std.specs.List.{list_any}
 use Rattle.std.proofs.lemmas.Bool.{and_parts, or_cases, or_parts}
-use Rattle.device_types.specs.{declared.bus_record.BusRecord.BusRecord, Bounds.are_valid, Map.metadata_region, SeenRecord.SeenRecord, ExecFlag.{accesses_in, writes_to, is_opcode_fetch, clears_e3, clears_e4, clears_e9, clears, starts_run, last_pc, records_since, exec}}
+use Rattle.device_types.specs.{declared.bus_record.BusRecord.BusRecord, Bounds.are_valid, Map.metadata_region, ExecFlag.{SeenRecord, accesses_in, writes_to, is_opcode_fetch, clears_e3, clears_e4, clears_e9, clears, starts_run, last_pc, records_since, exec}}
 use Rattle.part_definitions.specs.TrustedFlag.{clears_aux, aux}
-use Rattle.device_trace.specs.{Play.Play, Logs.{Logs, exec_of, logged_bounds, with_events, with_record}, Start.Start, Step.next_record, Trace.logs_after}
+use Rattle.device_trace.specs.{Trace.{Play, logs_after}, Logs.{Logs, exec_of, logged_bounds, with_events, with_record}, Start.Start, Step.next_record}
 use Rattle.trace_facts.proofs.{Choices.none_there, BoundsStay.logged_bounds-stay}
 
 -- where the flag is set after a record, this does not clear it, and it starts a run or the flag was

@@ -6,7 +6,7 @@ use Rattle.std.proofs.lemmas.Bool.Decides.{nat_tests}
 use Rattle.word_arith.specs.declared.size.Size.TheVariants.{Word}
 use Rattle.device_types.specs.{declared.{access.Access.TheVariants.Write, bounds.Bounds.Bounds, kind.Kind.Kind, rule.Rule.TheVariants.{A1, K3}}, Access.some_writes, Kind.is_boot, Map.{ROM_ENTRY, ROM_BODY}, ExecFlag.last_pc}
 use Rattle.part_definitions.specs.{Attestation.{CallItem, KeyRead, MetadataRead, KeptRead, KeptWrite, DecisionWrite, DerivedKeyWrite, RegionRead, InnerDigestWrite, MacWrite, ReturnRead, region_words, bounds_read, decision_read, call_item, item_access, item_pc}, CpuRegister.sp_of, CpuState.cpu_pc, FirstRule.first_rule, MonitorRule.{in_rom, was_inside, leaves_stack_and_mac, breaks_a1, breaks_k3}}
-use Rattle.device_trace.specs.{Play.Play, Logs.{Logs, vector_of, step_progress}, Progress.{Progress, Held, Runs, InCall, next_pc_of, kind_of, progress_within, access_of}, Signals.{step_kind, signals_at, signals_of}, Start.Start, Step.record_of, Trace.trace}
+use Rattle.device_trace.specs.{Trace.{Play, trace}, Logs.{Logs, vector_of, step_progress}, Progress.{Progress, Held, Runs, InCall, next_pc_of, kind_of, progress_within, access_of}, Signals.{step_kind, signals_at, signals_of}, Start.Start, Step.record_of}
 use Rattle.trace_facts.specs.Naming.{NamesNeitherA1NorK3}
 use Rattle.trace_facts.proofs.{CallPlaces.{ItemFits, item_after-fits}, Sound.{IsSound, IsWithin, progress_within-right}, SoundPlay.{LogsAreSound, each_record}, BreaksNoRule.{atomicity_rule-none, first_rule-a1, first_rule-k3}}
 

@@ -5,7 +5,7 @@ use Rattle.std.proofs.lemmas.Bool.{ne_eqb, eq-eqb}
 use Rattle.device_types.specs.{declared.access.Access.Access, Address.even, ExecFlag.fetches_at}
 use Rattle.word_arith.specs.{declared.{size.Size.{Size, TheVariants.{Byte, Word}}, op2.Op2.{Op2, TheVariants.{Mov, Add, Addc, Subc, Sub, Cmp, Dadd, Bit, Bic, Bis, Xor, And}}}}
 use Rattle.msp_decode.specs.{declared.{dest_form.DestForm.{DestForm, TheVariants.{Register as DestRegister, Indexed as DestIndexed}}, head.Head.{Head, TheVariants.{Two, One as OneOperand, Reti, Jump}}, one.One.{One, TheVariants.{Rrc, Swpb, Rra, Sxt, Push, Call}}, reg.Reg.{Reg, TheVariants.{R0, R1, R2, R3, R4, R5, R6, R7, R8, R9, R10, R11, R12, R13, R14, R15}}, source_form.SourceForm.{SourceForm, TheVariants.{Register, Indexed, Indirect, IndirectInc, Immediate, Constant}}}, Head.head_of}
-use Rattle.part_definitions.specs.{AddressSum.plus, BusAccess.{read_at, write_at}, CpuRegister.{pc_of, after_word}, CpuState.ask_of, Instruction.{bus_access, after_value}, NextAccess.{walk, walk_head, next_access}, Operand.{size_of, state_at_start, after_increment}, CpuAccess.{source_accesses, result_accesses, destination_accesses, operand_accesses, write_back}, declared.{cpu_access.CpuAccess.{CpuAccess, TheVariants.{FetchImmediate, FetchSourceIndex, ReadSource, ReadIncrementing, FetchDestinationIndex, ReadDestination, WriteResult, PushSource, PushPc, PopSr, PopPc}}, working_state.WorkingState.WorkingState}}
+use Rattle.part_definitions.specs.{CpuRegister.{plus, pc_of, after_word}, BusAccess.{read_at, write_at}, CpuState.ask_of, Instruction.{bus_access, after_value}, NextAccess.{walk, walk_head, next_access}, Operand.{size_of, state_at_start, after_increment}, CpuAccess.{source_accesses, result_accesses, destination_accesses, operand_accesses, write_back}, declared.{cpu_access.CpuAccess.{CpuAccess, TheVariants.{FetchImmediate, FetchSourceIndex, ReadSource, ReadIncrementing, FetchDestinationIndex, ReadDestination, WriteResult, PushSource, PushPc, PopSr, PopPc}}, working_state.WorkingState.WorkingState}}
 use Rattle.trace_facts.proofs.ProperRegisters.{IsProper}
 
 -- no fetch at this `pc` comes next

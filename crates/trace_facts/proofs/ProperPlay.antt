@@ -4,7 +4,7 @@ use Rattle.std.proofs.lemmas.Bool.{cond_both}
 use Rattle.device_types.specs.{declared.{access.Access.Access, kind.Kind.{Kind, TheVariants.{Boot, Cpu, Idle, Irq, Rom}}}}
 use Rattle.msp_decode.specs.declared.reg.Reg.TheVariants.{R1}
 use Rattle.part_definitions.specs.{Attestation.{call_item, is_return, word_passed}, CpuRegister.{clear_registers, after_pop}, CpuState.{Boundary, Executing, Entering}}
-use Rattle.device_trace.specs.{Play.Play, Logs.vector_of, Progress.{Progress, Held, Runs, InCall, progress_from_boundary, progress_within, after_return, call_after, next_progress}, Signals.step_kind, Start.Start, Trace.logs_after}
+use Rattle.device_trace.specs.{Trace.{Play, logs_after}, Logs.vector_of, Progress.{Progress, Held, Runs, InCall, progress_from_boundary, progress_within, after_return, call_after, next_progress}, Signals.step_kind, Start.Start}
 use Rattle.trace_facts.proofs.{ProperRegisters.{IsProper, IsProperCpu, with_register-proper, with_pc-proper, cpu_after-proper}, EachPlay.{logs_after-kept, cpu_state_after-kept}}
 
 abbrev pub IsProperProgress : Progress → Type 0

@@ -3,8 +3,8 @@ use Rattle.std.proofs.Common.{◌≡◌, Bool, true, false, sym, ◌∙◌}
 use Rattle.std.specs.Prelude.{All}
 use Rattle.device_types.specs.{declared.kind.Kind.{Kind, TheVariants.Rom}}
 use Rattle.part_definitions.specs.MonitorRule.{in_rom}
-use Rattle.device_trace.specs.{Play.Play, Logs.{Logs, step_progress}, Progress.{Progress, Held, Runs, InCall, next_pc_of}, Signals.{step_kind, signals_at}, Start.Start, Step.record_of, Trace.trace}
-use Rattle.trace_facts.specs.RomCode.{RunsRomInCall}
+use Rattle.device_trace.specs.{Trace.{Play, trace}, Logs.{Logs, step_progress}, Progress.{Progress, Held, Runs, InCall, next_pc_of}, Signals.{step_kind, signals_at}, Start.Start, Step.record_of}
+use Rattle.trace_facts.specs.Naming.{RunsRomInCall}
 use Rattle.trace_facts.proofs.{Sound.IsWithin, SoundPlay.{LogsAreSound, within_unrefused, each_record}}
 
 within_rom : (kind : Kind) (progress : Progress) → IsWithin kind progress

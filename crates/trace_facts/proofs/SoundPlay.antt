@@ -2,7 +2,7 @@
 use Rattle.std.proofs.Common.{◌≡◌, Bool, [], ◌∷◌, None}
 use Rattle.part_definitions.specs.FirstRule.{first_rule}
 use Rattle.device_types.specs.{ExecFlag.last_pc, declared.bus_record.BusRecord.BusRecord}
-use Rattle.device_trace.specs.{Play.Play, Logs.{Logs, vector_of, step_progress, with_events}, Signals.{step_kind, signals_at, signals_of}, Start.Start, Step.{record_of, next_record}, Trace.{logs_after, trace}}
+use Rattle.device_trace.specs.{Trace.{Play, logs_after, trace}, Logs.{Logs, vector_of, step_progress, with_events}, Signals.{step_kind, signals_at, signals_of}, Start.Start, Step.{record_of, next_record}}
 use Rattle.trace_facts.proofs.{Sound.{IsSound, IsWithin, progress_within-right, next_progress-sound}, BreaksNoRule.first_rule-none, EachPlay.{HoldsAfter, logs_after-kept}}
 use Rattle.std.specs.Prelude.{All}
 use Rattle.std.proofs.lemmas.List.Elements.{All-nil, All-cons}

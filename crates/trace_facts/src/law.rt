@@ -1,7 +1,7 @@
 ghost use Rattle.std.specs.Prelude.{All, List};
 ghost use Rattle.device_types.specs.declared.event.Event.{Event};
-ghost use Rattle.device_trace.specs.{Play.Play, Start.Start, Trace.trace};
-ghost use Rattle.trace_facts.specs.{Naming.NamesNeitherA1NorK3, RomCode.RunsRomInCall};
+ghost use Rattle.device_trace.specs.{Trace.{Play, trace}, Start.Start};
+ghost use Rattle.trace_facts.specs.Naming.{NamesNeitherA1NorK3, RunsRomInCall};
 
 /// No step of any play is refused for rule A1 or K3: the call of the ROM is an engine that is left
 /// at its end alone, and writes nowhere but in the exclusive stack and the MAC.

@@ -4,7 +4,7 @@ use Rattle.std.specs.Prelude.{◌==◌, ◌&&◌, codes, if◌then◌else◌}
 use Rattle.std.specs.Bool.{MatchBool}
 use Rattle.std.specs.Fmt.{digits}
 use Rattle.std.proofs.lemmas.Bool.{and_parts}
-use Rattle.named_value.specs.PlainWord.{is_plain}
+use Rattle.named_value.specs.Names.{is_plain}
 use Rattle.trace_files.specs.{declared.wire.Wire.Wire, Wire.{wires, wire_code}, WaveText.{change_text, digits_text, is_bit}, WaveReader.{WavePoint, with_change, with_value}}
 use Rattle.word_arith.specs.Number.{bit_of}
 use Rattle.trace_files.proofs.{Fitting.{IsShort, Suits}, Reading.{Reads, plain_value, reads_both, reads_line, reads_nothing, value_in_digits}, Stages.{are_numbered, kept, replaced, staged}}

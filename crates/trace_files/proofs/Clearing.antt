@@ -4,7 +4,7 @@ use Rattle.std.specs.Prelude.{◌==◌, ◌&&◌, ◌||◌, ◌++◌, is_some, o
 use Rattle.std.specs.List.{list_any}
 use Rattle.std.proofs.Math.Bool.{or-false}
 use Rattle.std.proofs.lemmas.List.Folds.{list_any-append}
-use Rattle.device_types.specs.{declared.{access.Access.{Access, TheVariants.{Fetch, Read, Write}}, region.Region.Region}, Access.some_writes, Map.{touches, some_touches, metadata_region}, Bounds.{executable_region, output_region}, SeenRecord.SeenRecord, ExecFlag.{clears, runs_inside, ran_inside, ran_at, fetches_outside, writes_to}}
+use Rattle.device_types.specs.{declared.{access.Access.{Access, TheVariants.{Fetch, Read, Write}}, region.Region.Region}, Access.some_writes, Map.{touches, some_touches, metadata_region}, Bounds.{executable_region, output_region}, ExecFlag.{SeenRecord, clears, runs_inside, ran_inside, ran_at, fetches_outside, writes_to}}
 use Rattle.trace_files.specs.Disturbance.{disturbs_run, disturbs_rest}
 
 -- what clears the flag, of a step in ER or outside it

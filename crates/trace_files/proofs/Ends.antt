@@ -1,6 +1,6 @@
 -- What a waveform that stands for steps puts at their end.
 use Rattle.std.proofs.Common.{◌≡◌, [], ◌∷◌, List, Some, refl}
-use Rattle.trace_files.specs.{declared.{sample.Sample.Sample, wave.Wave.Wave}, Wave.{WaveStandsFor, shown_now}, WaveText.{end_text, shown_after, told_text}}
+use Rattle.trace_files.specs.{declared.{sample.Sample.Sample, wave.Wave.Wave}, WaveText.{WaveStandsFor, shown_now, end_text, shown_after, told_text}}
 
 pub end_told : (wave : Wave) (samples : List Sample) (last : Sample)
     → WaveStandsFor wave samples → wave.last ≡ Some last

@@ -2,7 +2,7 @@
 use Rattle.std.proofs.Common.{◌≡◌, ◌&&◌, ◌||◌, Bool, true, false, not, List, [], ◌∷◌, sym, ◌∙◌, if◌then◌else◌}
 use Rattle.std.proofs.Math.Bool.{and-true, and-false, or_comm}
 use Rattle.std.specs.List.{list_any}
-use Rattle.device_types.specs.{SeenRecord.SeenRecord, ExecFlag.{exec, clears, starts_run, last_pc, records_since}}
+use Rattle.device_types.specs.ExecFlag.{SeenRecord, exec, clears, starts_run, last_pc, records_since}
 
 pub exec_cons : (now : SeenRecord) (before : List SeenRecord)
     → exec (now ∷ before) ≡ ((exec before || starts_run now) && not (clears (last_pc before) now))

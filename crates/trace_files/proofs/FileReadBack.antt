@@ -3,8 +3,8 @@ use Rattle.std.proofs.Common.{suc, ◌≡◌, ◌∙◌, ℕ, ◌+◌, ◌<◌, 
 use Rattle.std.specs.Prelude.{codes}
 use Rattle.std.specs.Str.Lines.{lines}
 use Rattle.line_buffer.proofs.PieceLines.{first_line}
-use Rattle.text_scan.specs.Line.{numbered_lines}
-use Rattle.trace_files.specs.{declared.trace_line.TraceLine.TraceLine, LineText.{line_pieces, trace_line, file_text}, LineReadBack.{ArePrintable, FilesReadBack}, TraceFile.{lines_after, trace_of}}
+use Rattle.text_scan.specs.LineFold.{numbered_lines}
+use Rattle.trace_files.specs.{declared.trace_line.TraceLine.TraceLine, LineText.{line_pieces, trace_line, file_text}, LineReadBack.{ArePrintable, FilesReadBack}, LineGrammar.{lines_after, trace_of}}
 use Rattle.trace_files.proofs.LineReadBack.{pieces-line, line_reads_back}
 
 -- lines in order, from this step on

@@ -12,7 +12,7 @@ use Rattle.printed_lines.specs.Line.{byte_digits, word_digits, flag_digit}
 use Rattle.line_buffer.specs.LineLaw.{ArePieces}
 use Rattle.line_buffer.proofs.PieceLines.{first_line, plain-flag, plain-byte, plain-word}
 use Rattle.text_scan.specs.WordValue.{number_of, place_of, value_of}
-use Rattle.named_value.specs.{Names.value_named, PlainWord.{IsPlainWord, is_plain}}
+use Rattle.named_value.specs.Names.{value_named, IsPlainWord, is_plain}
 use Rattle.text_scan.proofs.{NamedWord.value_of-name, PlainWords.{one_byte, decimal_of-decimal, hex_bytes_of-digits, hex_word_of-digits, plain-decimal}}
 use Rattle.trace_files.specs.{declared.trace_line.TraceLine.TraceLine, LineText.{access_word, rule_word, line_pieces}, LineGrammar.{LAST_TRACED_STEP, fetch_in, read_in, write_in, access_in, rule_in, named_of, flag_of, bounds_of, fields_of, trace_line_of}, LineReadBack.{IsAllowed, IsPrintable, LinesReadBack}}
 

@@ -14,7 +14,7 @@ use Rattle.std.proofs.lemmas.Str.{digit_value_digit}
 use Rattle.std.proofs.lemmas.Str.Parse.{digit_from_value}
 use Rattle.text_scan.specs.declared.fault_kind.FaultKind.{FaultKind}
 use Rattle.text_scan.proofs.{FirstLine.lines-line, PlainWords.{ArePlain, decimal_of-decimal, plain-decimal, printed-join, printed_bounds, words_of-join}}
-use Rattle.named_value.specs.PlainWord.{is_plain}
+use Rattle.named_value.specs.Names.{is_plain}
 use Rattle.trace_files.specs.{WaveText.{digits_text, time_text}, WaveReader.{WavePoint, after_words, and_then, last_values, number_after, points_after, value_in, with_time}}
 use Rattle.trace_files.proofs.Fitting.{IsShort}
 

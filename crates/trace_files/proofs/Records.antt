@@ -1,7 +1,7 @@
 -- The flag and the monitors see the same in the lines of a play as in its records.
 use Rattle.std.proofs.Common.{arith, ◌≡◌, ℕ, List, [], ◌∷◌, Option, map, refl, ap}
-use Rattle.device_types.specs.{SeenRecord.SeenRecord, ExecFlag.{clears, starts_run, last_pc, exec}}
-use Rattle.device_trace.specs.{Play.Play, Blank.blank_record, Logs.{with_events, with_record}, Start.Start, Trace.logs_after}
+use Rattle.device_types.specs.ExecFlag.{SeenRecord, clears, starts_run, last_pc, exec}
+use Rattle.device_trace.specs.{Trace.{Play, logs_after}, Blank.blank_record, Logs.{with_events, with_record}, Start.Start}
 use Rattle.key_isolation.proofs.SameFlag.{exec-same}
 use Rattle.trace_files.specs.{Clean.seen_in, TraceText.{next_line, trace_lines}}
 

@@ -4,7 +4,7 @@ use Rattle.std.specs.Prelude.{◌&&◌}
 use Rattle.std.proofs.lemmas.Bool.{and_parts}
 use Rattle.device_types.specs.{declared.{bounds.Bounds.Bounds, event.Event.Event, rule.Rule.Rule, signals.Signals.Signals}, Kind.is_cpu, ExecFlag.{exec, fetches_at, last_pc}}
 use Rattle.part_definitions.specs.FirstRule.{first_rule}
-use Rattle.device_trace.specs.{Play.Play, Blank.blank_record, Logs.{Logs, exec_of, logged_bounds, with_events}, Progress.last_registers, Signals.{value_read, signals_of}, Start.Start, Step.{asks_reset, dma_value_read, record_from, record_of, next_record}, Trace.{next_logs, logs_after}}
+use Rattle.device_trace.specs.{Trace.{Play, next_logs, logs_after}, Blank.blank_record, Logs.{Logs, exec_of, logged_bounds, with_events}, Progress.last_registers, Signals.{value_read, signals_of}, Start.Start, Step.{asks_reset, dma_value_read, record_from, record_of, next_record}}
 use Rattle.trace_facts.proofs.{BreaksNoRule.key_rule-none, OpcodeFetch.opcode_in, ProperPlay.logs_after-proper}
 use Rattle.trace_files.specs.{Clean.{signals_in, seen_in, right_rule, right_exec, IsClean}, TraceText.{line_with, next_line, trace_lines}}
 use Rattle.trace_files.proofs.{Records.{last_pc-shown, exec-shown, lines_seen}, SameSight.{SameSight, first_rule-sight, shape-told, fetches_at-told, word_told}}

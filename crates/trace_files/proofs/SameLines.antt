@@ -1,7 +1,7 @@
 -- The lines of a play without its key.
 use Rattle.std.proofs.Common.{◌≡◌, ℕ, Bool, List, [], ◌∷◌, ◌++◌, Option, Some, None, refl, ap, sym, ◌∙◌, arith}
 use Rattle.device_types.specs.{declared.{access.Access.{Access, TheVariants.{Fetch, Read, Write}}, bus_record.BusRecord.BusRecord, event.Event.Event}, Access.without_number, ExecFlag.last_pc}
-use Rattle.device_trace.specs.{Play.Play, Blank.{blank_record, blank_value, touches_secrets}, Logs.{Logs, exec_of, logged_bounds, with_events}, Signals.{word_fetched, signals_at, signals_of}, Start.Start, Step.{asks_reset, next_record, next_signals}, Trace.{next_logs, logs_after}}
+use Rattle.device_trace.specs.{Trace.{Play, next_logs, logs_after}, Blank.{blank_record, blank_value, touches_secrets}, Logs.{Logs, exec_of, logged_bounds, with_events}, Signals.{word_fetched, signals_at, signals_of}, Start.Start, Step.{asks_reset, next_record, next_signals}}
 use Rattle.trace_facts.proofs.{Sound.IsSound, SoundPlay.logs_after-sound}
 use Rattle.key_isolation.proofs.{Bytes.same_if, FlagBlank.{exec-blank, blank_access-twice, blank_value-twice}, Hiding.{open_start, hide, logged_bounds-hide}, Induction.{play_hides, releases_before}, LogsBlank.step_hides, Reading.value_read-hide, SignalShape.signals_of-hide}
 use Rattle.trace_files.specs.TraceText.{line_with, next_line, trace_lines, word_shown}

@@ -3,7 +3,7 @@ use Rattle.std.proofs.Common.{◌≡◌, ℕ, List, [], ◌∷◌, ◌++◌, Opt
 use Rattle.std.proofs.lemmas.Bool.Decides.{nat_tests}
 use Rattle.device_types.specs.{declared.{access.Access.Access, bus_record.BusRecord.BusRecord, event.Event.Event, rule.Rule.Rule}, ExecFlag.last_pc}
 use Rattle.part_definitions.specs.{Pins.pins_word, Timer.timer_flag}
-use Rattle.device_trace.specs.{Blank.{blank_access, blank_value}, Logs.Logs, Peripherals.with_all_events, Play.Play, Start.Start, Step.next_record, Trace.{next_logs, logs_after}}
+use Rattle.device_trace.specs.{Blank.{blank_access, blank_value}, Logs.Logs, Peripherals.with_all_events, Trace.{Play, next_logs, logs_after}, Start.Start, Step.next_record}
 use Rattle.trace_facts.proofs.{Sound.IsSound, SoundPlay.logs_after-sound}
 use Rattle.key_isolation.proofs.{Hiding.{open_start, hide, flags_of-hide, last_registers-hide}, Induction.{play_hides, releases_before}, LogsBlank.step_hides, Projections.byte_sent_by-blank}
 use Rattle.trace_files.specs.{TraceText.next_line, WaveSamples.{byte_received_by, next_ports, play_state, ports_with, state_of, wave_samples}}

@@ -1,7 +1,7 @@
 -- What trace and waveform show without the key, and with two keys whose released words agree.
 use Rattle.std.proofs.Common.{◌≡◌, ◌++◌, refl, ap, sym, ◌∙◌}
-use Rattle.device_trace.specs.{Play.Play, Start.Start, Trace.released_words}
-use Rattle.key_isolation.specs.Agreement.{ReleaseAlike, SameButKey}
+use Rattle.device_trace.specs.{Trace.{Play, released_words}, Start.Start}
+use Rattle.key_isolation.specs.Keyless.{ReleaseAlike, SameButKey}
 use Rattle.key_isolation.proofs.TwoKeys.{one_keyless}
 use Rattle.trace_files.specs.{KeylessLines.{HasKeylessLines, IsKeyless}, TraceText.trace_lines, WaveSamples.wave_samples}
 use Rattle.trace_files.proofs.{SameLines.trace_lines-hide, SameSamples.wave_samples-hide}

@@ -1,7 +1,7 @@
 -- Which lists of trace lines, the newest first, are clean: the rule of each is the first that its
 -- step breaks, and its EXEC is the flag after it.
 use Rattle.std.specs.Prelude.{◌≡◌, ◌&&◌, Bool, List, [], ◌∷◌, map, Option}
-use Rattle.device_types.specs.{declared.{bus_record.BusRecord.BusRecord, rule.Rule.Rule, signals.Signals.Signals}, Kind.is_cpu, SeenRecord.SeenRecord, ExecFlag.{exec, fetches_at, last_pc}}
+use Rattle.device_types.specs.{declared.{bus_record.BusRecord.BusRecord, rule.Rule.Rule, signals.Signals.Signals}, Kind.is_cpu, ExecFlag.{SeenRecord, exec, fetches_at, last_pc}}
 use Rattle.part_definitions.specs.FirstRule.{first_rule}
 use Rattle.trace_files.specs.declared.trace_line.TraceLine.{TraceLine}
 

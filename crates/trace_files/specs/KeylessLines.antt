@@ -1,7 +1,7 @@
 -- The lines of a play without its key.
 use Rattle.std.specs.Prelude.{◌≡◌, List}
-use Rattle.word_arith.specs.Word16.{Word16}
-use Rattle.device_trace.specs.{Play.Play, Start.Start}
+use Rattle.word_arith.specs.Number.{Word16}
+use Rattle.device_trace.specs.{Trace.Play, Start.Start}
 use Rattle.key_isolation.specs.Keyless.{keyless}
 use Rattle.trace_files.specs.{TraceText.trace_lines, WaveSamples.wave_samples}
 

@@ -1,17 +1,14 @@
 pub mod LineText
 pub mod LineGrammar
-pub mod TraceFile
 pub mod LineReadBack
 pub mod Clean
 pub mod Offence
 pub mod AuditText
-pub mod Audit
 pub mod Span
 pub mod Disturbance
 pub mod Wire
 pub mod WireValue
 pub mod WaveText
-pub mod Wave
 pub mod WaveReader
 pub mod WaveReadBack
 pub mod TraceText

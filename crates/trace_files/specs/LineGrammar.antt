@@ -1,12 +1,11 @@
 -- The grammar of a trace line: what it says, and its first fault.
-use Rattle.std.specs.Prelude.{ℕ, ◌==◌, ◌%◌, Bool, true, List, take, drop, slice_index, if◌then◌else◌, Option, Some, None, Result, Ok, Err, codes}
-use Rattle.std.specs.Str.{bytes_eq}
-use Rattle.word_arith.specs.{declared.size.Size.{Size, TheVariants.{Byte, Word}}}
+use Rattle.std.specs.{Prelude.{ℕ, ◌==◌, ◌%◌, Bool, true, List, take, drop, slice_index, if◌then◌else◌, Option, Some, None, Result, Ok, Err, codes, false, [], ◌∷◌, length}, Str.bytes_eq}
+use Rattle.word_arith.specs.declared.size.Size.{Size, TheVariants.{Byte, Word}}
 use Rattle.device_types.specs.{declared.{access.Access.{Access, TheVariants.{Fetch, Read, Write}}, bounds.Bounds.Bounds, rule.Rule.Rule}, Kind.kind_names, Rule.rule_names}
 use Rattle.named_value.specs.Names.{value_named}
-use Rattle.text_scan.specs.{declared.fault_kind.FaultKind.FaultKind, Hexadecimal.{hex_bytes_of, hex_word_of}, Reader.◌>>=◌, Word.{next_word, keyword_of, end_of}, WordValue.{number_of, place_of, or_word, value_of}}
-use Rattle.text_scan.specs.declared.fault_kind.FaultKind.TheVariants as faults
+use Rattle.text_scan.specs.{declared.{fault_kind.FaultKind.FaultKind, fault_at.FaultAt.FaultAt}, Hexadecimal.{hex_bytes_of, hex_word_of}, Reader.{◌>>=◌, in_line}, Word.{next_word, keyword_of, end_of, words_of}, WordValue.{number_of, place_of, or_word, value_of}, LineFold.text_lines}
 use Rattle.trace_files.specs.declared.trace_line.TraceLine.{TraceLine}
+use Rattle.text_scan.specs.declared.fault_kind.FaultKind.TheVariants as faults
 
 -- the last number that a step can have in a trace file
 abbrev pub LAST_TRACED_STEP : ℕ
@@ -147,3 +146,24 @@ trace_line_of step words = do
   fields ← fields_of said.1
   end ← end_of fields.1
   in_order step said.0 fields.0
+
+-- A trace file: the lines of its steps, or its first fault.
+
+abbrev pub is_empty : List ℕ → Bool
+is_empty [] = true
+is_empty (character ∷ line) = false
+
+-- the lines so far, the newest first, and those after them, or the first fault; the steps are
+-- numbered from 0, and empty lines are passed over
+unfoldable pub lines_after :
+    List TraceLine → List (ℕ × List ℕ) → Result (List TraceLine) FaultAt
+lines_after before [] = Ok before
+lines_after before (line ∷ lines) =
+    if is_empty line.1 then lines_after before lines
+    else (do
+      entry ← in_line line.0 (trace_line_of (length before) (words_of line.1))
+      lines_after (entry ∷ before) lines)
+
+-- the lines of a text, the newest first, or its first fault
+abbrev pub trace_of : List ℕ → Result (List TraceLine) FaultAt
+trace_of text = lines_after [] (text_lines text)

@@ -3,7 +3,7 @@ use Rattle.std.specs.Prelude.{◌≡◌, ◌<◌, ◌≤◌, ◌^◌, ℕ, List,
 use Rattle.device_types.specs.{declared.access.Access.{Access, TheVariants.{Fetch, Read, Write}}, Access.IsFormed, Bounds.AreWords}
 use Rattle.printed_lines.specs.Line.{with_pieces}
 use Rattle.text_scan.specs.Word.{words_of}
-use Rattle.trace_files.specs.{declared.trace_line.TraceLine.TraceLine, LineGrammar.trace_line_of, LineText.{line_pieces, file_text}, TraceFile.trace_of}
+use Rattle.trace_files.specs.{declared.trace_line.TraceLine.TraceLine, LineGrammar.{trace_line_of, trace_of}, LineText.{line_pieces, file_text}}
 
 -- the numbers of an access are words
 abbrev pub HasWords : Access → Type 0

@@ -1,7 +1,7 @@
 -- The trace file of a play: a line for each step, with the secrets blanked.
 use Rattle.std.specs.Prelude.{ℕ, Bool, List, [], ◌∷◌, Option, Some, None}
 use Rattle.device_types.specs.{declared.{bounds.Bounds.Bounds, bus_record.BusRecord.BusRecord, event.Event.Event, signals.Signals.Signals}}
-use Rattle.device_trace.specs.{Play.Play, Blank.{blank_record, blank_value}, Logs.{Logs, exec_of, logged_bounds}, Start.Start, Step.{next_record, next_signals}, Trace.{next_logs, logs_after}}
+use Rattle.device_trace.specs.{Trace.{Play, next_logs, logs_after}, Blank.{blank_record, blank_value}, Logs.{Logs, exec_of, logged_bounds}, Start.Start, Step.{next_record, next_signals}}
 use Rattle.trace_files.specs.{declared.trace_line.TraceLine.TraceLine, LineText.file_text}
 
 -- the word that a proposed fetch would read, 0 where it touches the key or the exclusive stack

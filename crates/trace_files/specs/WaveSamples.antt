@@ -3,7 +3,7 @@ use Rattle.std.specs.Prelude.{◌%◌, ℕ, List, [], ◌∷◌, Option, Some, N
 use Rattle.word_arith.specs.{declared.size.Size.{Size, TheVariants.Word}}
 use Rattle.device_types.specs.{Address.Address, declared.{access.Access.{Access, TheVariants.{Fetch, Read}}, bus_record.BusRecord.BusRecord, event.Event.Event, rule.Rule.Rule}}
 use Rattle.part_definitions.specs.{Pins.pins_word, Serial.takes_byte, Timer.timer_flag}
-use Rattle.device_trace.specs.{Logs.{Logs, aux_of}, Peripherals.with_all_events, Play.Play, Progress.last_registers, Start.Start, Step.next_record, Text.byte_sent_in, Trace.logs_after}
+use Rattle.device_trace.specs.{Logs.{Logs, aux_of}, Peripherals.with_all_events, Trace.{Play, logs_after}, Progress.last_registers, Start.Start, Step.next_record, Text.byte_sent_in}
 use Rattle.trace_files.specs.{declared.{ports.Ports.Ports, sample.Sample.Sample, state.State.State}, TraceText.next_line}
 
 -- the byte of a read that takes one from the serial port; 0 where none waited

@@ -1,9 +1,7 @@
 -- The text of a waveform: a value change dump (IEEE 1364-2005, clause 18) with one unit of time for
 -- each bus step.
-use Rattle.std.specs.Prelude.{◌++◌, ◌==◌, ℕ, Bool, true, false, not, List, [], ◌∷◌, length, replicate, Option, Some, None, if◌then◌else◌, codes}
-use Rattle.std.specs.Fmt.{decimal, digits}
-use Rattle.std.specs.List.{flat_map, list_any}
-use Rattle.trace_files.specs.{declared.{sample.Sample.Sample, state.State.State, wire.Wire.Wire}, Wire.{wires, wire_name, wire_width, wire_code}, WireValue.{wire_value, is_same_value}}
+use Rattle.std.specs.{Prelude.{◌++◌, ◌==◌, ℕ, Bool, true, false, not, List, [], ◌∷◌, length, replicate, Option, Some, None, if◌then◌else◌, codes, ◌≡◌}, Fmt.{decimal, digits}, List.{flat_map, list_any}}
+use Rattle.trace_files.specs.{declared.{sample.Sample.Sample, state.State.State, wire.Wire.Wire, wave.Wave.Wave}, Wire.{wires, wire_name, wire_width, wire_code}, WireValue.{wire_value, is_same_value}}
 
 abbrev pub is_bit : Wire → Bool
 is_bit wire = wire_width wire == 1
@@ -122,3 +120,25 @@ end_text (sample ∷ before) =
 -- the whole waveform of steps, the newest first
 abbrev pub wave_file : List Sample → List ℕ
 wave_file samples = header ++ steps_text samples ++ end_text samples
+
+-- Which steps a waveform that is being written has told.
+
+-- how many it has told
+abbrev pub steps_told : Wave → ℕ
+steps_told wave = wave.steps
+
+-- a step with EXEC and the state as they are now
+abbrev pub shown_now : Wave → Sample → Sample
+shown_now wave sample =
+    record {
+      line = record sample.line { exec = wave.exec };
+      ports = sample.ports;
+      state = wave.state;
+    }
+
+-- the newest first
+pub record WaveStandsFor (wave : Wave) (samples : List Sample) : Type 0 where
+  pub same_steps : wave.steps ≡ length samples
+  pub same_last : wave.last ≡ last_shown samples
+  pub same_exec : wave.exec ≡ exec_after samples
+  pub same_state : wave.state ≡ state_after samples

@@ -16,7 +16,7 @@ pub struct Audit {
 }
 
 impl Audit {
-    ghost use Rattle.trace_files.specs.Audit.{AuditStandsFor};
+    ghost use Rattle.trace_files.specs.AuditText.{AuditStandsFor};
 
     /// An audit that has seen no line.
     #[tactic(auto, unfolding(device_types::specs::ExecFlag::exec))]

@@ -1,6 +1,6 @@
 ghost use Rattle.std.specs.Prelude.{◌≡◌, ◌+◌, ◌<◌, ◌^◌, List, length};
 ghost use Rattle.text_scan.specs.{Reader.in_line, Word.words_of};
-ghost use Rattle.trace_files.specs.{LineGrammar.trace_line_of, declared.trace_line.TraceLine.TraceLine, Audit.{AuditStandsFor, SaysMore}, AuditText.{audit_of, audit_of_lines}, Offence.or_first};
+ghost use Rattle.trace_files.specs.{LineGrammar.trace_line_of, declared.trace_line.TraceLine.TraceLine, AuditText.{AuditStandsFor, SaysMore, audit_of, audit_of_lines}, Offence.or_first};
 
 use crate::audit::Audit;
 use crate::audited::Audited;

@@ -1,5 +1,5 @@
-ghost use Rattle.device_trace.specs.{Play.Play, Start.Start};
-ghost use Rattle.key_isolation.specs.Agreement.{ReleaseAlike, SameButKey};
+ghost use Rattle.device_trace.specs.{Trace.Play, Start.Start};
+ghost use Rattle.key_isolation.specs.Keyless.{ReleaseAlike, SameButKey};
 ghost use Rattle.trace_files.specs.{Clean.IsClean, KeylessLines.{HasKeylessLines, IsKeyless}, TraceText.trace_lines};
 
 /// The lines of every play are clean: each names the first rule that its step breaks, as far as the

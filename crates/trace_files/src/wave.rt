@@ -22,7 +22,7 @@ pub struct Wave {
 }
 
 impl Wave {
-    ghost use Rattle.trace_files.specs.Wave.{WaveStandsFor, shown_now, steps_told};
+    ghost use Rattle.trace_files.specs.WaveText.{WaveStandsFor, shown_now, steps_told};
 
     /// A waveform that has told no step.
     pub fn new() -> Wave

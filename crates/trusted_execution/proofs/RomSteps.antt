@@ -3,7 +3,7 @@ use Rattle.std.proofs.Common.{◌≡◌, ℕ, true, false, not, List, ◌∷◌,
 use Rattle.std.specs.List.{list_any}
 use Rattle.std.proofs.lemmas.Bool.{and_left, or_from}
 use Rattle.std.proofs.lemmas.Bool.Decides.{nat_tests}
-use Rattle.device_types.specs.{declared.access.Access.Access, Access.bytes_of, Bounds.are_valid, Map.{lies_in, touches, vector_region}, SeenRecord.SeenRecord, ExecFlag.{last_pc, runs_inside, records_since}}
+use Rattle.device_types.specs.{declared.access.Access.Access, Access.bytes_of, Bounds.are_valid, Map.{lies_in, touches, vector_region}, ExecFlag.{SeenRecord, last_pc, runs_inside, records_since}}
 use Rattle.part_definitions.specs.{MonitorRule.{in_rom, is_written_by_rom}, TrustedFlag.{aux, clears_aux, clears_f3, clears_f4, clears_f10}}
 use Rattle.mac_coverage.proofs.{ExecKept.{IsRomStep, rom_step-outside, rom_step-apart, rom_step-keeps_both, rom_step-starts_none, kept_flag}, ValidPlaces.none_elsewhere}
 

@@ -2,13 +2,13 @@
 use Rattle.std.proofs.Common.{not, ◌≡◌, ◌&&◌, ℕ, Bool, true, false, List, [], ◌∷◌, inl, inr, Option, Some, None, map, refl, ap, sym, ◌∙◌, subst, is_some, arith}
 use Rattle.std.specs.Prelude.{◌==◌, is_none}
 use Rattle.std.proofs.lemmas.Bool.{cond_both, cond-true, and_left, and_right, and_parts, eq-eqb}
-use Rattle.device_types.specs.{declared.{access.Access.Access, bus_record.BusRecord.BusRecord, kind.Kind.TheVariants.Rom}, Access.some_writes, Bounds.are_valid, Kind.is_rom, Map.ROM_ENTRY, Report.ReportFields, SeenRecord.{SeenRecord, SeenHistory}, ExecFlag.last_pc}
+use Rattle.device_types.specs.{declared.{access.Access.Access, bus_record.BusRecord.BusRecord, kind.Kind.TheVariants.Rom}, Access.some_writes, Bounds.are_valid, Kind.is_rom, Map.ROM_ENTRY, Report.ReportFields, ExecFlag.{SeenRecord, SeenHistory, last_pc}}
 use Rattle.part_definitions.specs.{MonitorRule.leaves_stack_and_mac, TrustedFlag.aux}
 use Rattle.part_definitions.proofs.CallItems.{first_pc}
-use Rattle.device_trace.specs.{Play.Play, Blank.{blank_access, blank_record, blank_seen}, Logs.{Logs, aux_of, goes_on_in_call, records_until_call, logged_bounds, vector_of, step_progress, with_events, with_record}, Progress.{Progress, Held, Runs, InCall, next_pc_of}, Signals.step_kind, Start.Start, Step.{record_of, asks_reset, next_record}, Text.{last_report, last_decision, last_denial}, Trace.{logs_after, trace}, RegionRun.{TrustedInterrupts, TrustedRun}}
+use Rattle.device_trace.specs.{Trace.{Play, logs_after, trace}, Blank.{blank_access, blank_record, blank_seen}, Logs.{Logs, aux_of, goes_on_in_call, records_until_call, logged_bounds, vector_of, step_progress, with_events, with_record}, Progress.{Progress, Held, Runs, InCall, next_pc_of}, Signals.step_kind, Start.Start, Step.{record_of, asks_reset, next_record}, Text.{last_report, last_decision, last_denial}, RegionRun.{TrustedInterrupts, TrustedRun}}
 use Rattle.mac_coverage.proofs.{ExecKept.IsRomStep, Plays.{rom_kind, record_of-on_call}, Steps.{rom_step-of_call, OnCall, record_of-call, record_of-kind, record_of-pc, IsInRom}}
 use Rattle.proof_of_execution.proofs.Plays.{play_state, finished-run, report-run, denied_where}
-use Rattle.trusted_execution.specs.{SeenFlag.aux_seen, TrustedCall.AuxAfterCallMeansTrustedRun}
+use Rattle.trusted_execution.specs.TrustedCall.{aux_seen, AuxAfterCallMeansTrustedRun}
 use Rattle.trusted_execution.proofs.RomSteps.{aux-rom_step}
 use Rattle.trace_facts.proofs.BlankRecords.{last_pc-blank}
 

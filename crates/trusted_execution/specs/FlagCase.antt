@@ -1,6 +1,6 @@
 -- Plays at which both flags are computed, and what another program says of them.
 use Rattle.std.specs.Prelude.{◌≡◌, ◌==◌, ℕ, Bool, true, false, List, [], ◌∷◌, map, if◌then◌else◌}
-use Rattle.word_arith.specs.Word16.{Word16}
+use Rattle.word_arith.specs.Number.{Word16}
 use Rattle.device_types.specs.{declared.event.Event.{Event, TheVariants.{Rx, Dma}}, Address.{Contents, Address}}
 use Rattle.device_trace.specs.{Example.{counting_digest, upwards, program_of, bounds_part}, Logs.{Logs, exec_of, aux_of}, Start.{Start, with_key}, Trace.{logs_after, play_of}}
 use Rattle.part_definitions.specs.TrustedFlag.{aux}

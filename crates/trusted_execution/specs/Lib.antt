@@ -1,3 +1,2 @@
-pub mod SeenFlag
 pub mod TrustedCall
 pub mod FlagCase

@@ -1,8 +1,8 @@
 ghost use Rattle.std.specs.Prelude.{◌≡◌, ℕ, IsFalse, IsTrue, Some};
 ghost use Rattle.device_types.specs.{Bounds.executable_region, Report.ReportFields, ExecFlag.{last_pc, ran_inside}};
 ghost use Rattle.part_definitions.specs.TrustedFlag.{aux};
-ghost use Rattle.device_trace.specs.{Logs.{aux_of, logged_bounds}, Report.{EachReport, AuxMeansTrustedRun}, Start.Start, Text.{last_denial, last_report}, Trace.{logs_after, trace}, RegionRun.TrustedRun, Play.Play};
-ghost use Rattle.trusted_execution.specs.{SeenFlag.aux_seen, TrustedCall.AuxAfterCallMeansTrustedRun};
+ghost use Rattle.device_trace.specs.{Logs.{aux_of, logged_bounds}, Report.{EachReport, AuxMeansTrustedRun}, Start.Start, Text.{last_denial, last_report}, Trace.{logs_after, trace, Play}, RegionRun.TrustedRun};
+ghost use Rattle.trusted_execution.specs.TrustedCall.{aux_seen, AuxAfterCallMeansTrustedRun};
 
 /// Where the second flag is set after a play and the last record is outside the executable region,
 /// its bounds are valid, and the play has a trusted run of it.

@@ -12,7 +12,7 @@ use Rattle.text_scan.specs.declared.fault_kind.FaultKind.{FaultKind}
 use Rattle.report_text.specs.ReportFile.{report2_of}
 use Rattle.report_verifier.specs.{declared.{verdict.Verdict.{Verdict, TheVariants.{Accept, NoChallenge, VersionDiffers, ChalDiffers, CountDiffers, BoundsDiffer, ExecZero, AuxZero, MacDiffers}}, expect.Expect.Expect}, Judge.Judge, Verdict.{verdict_on, same_version}}
 use Rattle.desk_memory.specs.{declared.{answer.Answer.{Answer, TheVariants.Judged}, device_state.DeviceState.DeviceState}, DeviceState.{by_number, count_after, is_new, outstanding_after, with_answer}, Entry.{Entry, entry_at, home_of, state_under}}
-use Rattle.verifier_desk.specs.{DeviceLine.DeviceLine, DeviceReply.{LAST_COUNT, answer_to_ask, answer_to_give, new_answer}, Judged.{JudgedLine, answer_to, entry_after, entry_through, is_new_to, mark_of, state_before}, Law.{Descends, IsAcceptedOnce, KeyCounter, StartsSound, accepted_counters, accepted_counter, count_in, counter_in_state, counter_of, counters_in, outstanding_in, requested_counters, under_mark}}
+use Rattle.verifier_desk.specs.{DeskLine.DeviceLine, DeviceReply.{LAST_COUNT, answer_to_ask, answer_to_give, new_answer}, Judged.{JudgedLine, answer_to, entry_after, entry_through, is_new_to, mark_of, state_before}, Law.{Descends, IsAcceptedOnce, KeyCounter, StartsSound, accepted_counters, accepted_counter, count_in, counter_in_state, counter_of, counters_in, outstanding_in, requested_counters, under_mark}}
 
 -- an accepted report has the counter that is expected
 counts_agree : (version chal count : Bool) (later : Verdict)

@@ -8,7 +8,7 @@ use Rattle.text_scan.specs.declared.fault_kind.FaultKind.{FaultKind}
 use Rattle.report_text.specs.ReportFile.{report2_of}
 use Rattle.report_verifier.specs.{declared.{verdict.Verdict.{Verdict, TheVariants.{Accept, VersionDiffers, ChalDiffers}}, expect.Expect.Expect}, Judge.Judge, Verdict.{verdict_on, same_version}}
 use Rattle.desk_memory.specs.{declared.{answer.Answer.TheVariants.{Judged, Requested, Spent}, device_state.DeviceState.DeviceState}}
-use Rattle.verifier_desk.specs.{DeviceLine.DeviceLine, DeviceReply.{LAST_COUNT, answer_to_ask, answer_to_give, desk_challenge, new_answer}, Law.{AnswersRequest, IsAnswered}}
+use Rattle.verifier_desk.specs.{DeskLine.DeviceLine, DeviceReply.{LAST_COUNT, answer_to_ask, answer_to_give, desk_challenge, new_answer}, Law.{AnswersRequest, IsAnswered}}
 use Rattle.verifier_desk.proofs.AcceptedOnce.{accepted_count, new_by_number}
 
 chals_agree : (version chal : Bool) (later : Verdict)

@@ -4,7 +4,7 @@ use Rattle.std.specs.Prelude.{OnOk, Result}
 use Rattle.std.proofs.lemmas.List.{append-nil}
 use Rattle.outside_edge.specs.declared.sink.Sink as sink
 use Rattle.outside_edge.specs.declared.source.Source as source
-use Rattle.source_server.specs.{declared.{halt.Halt.Halt, lines.Lines.Lines, served.Served.{Served, TheVariants.Own}}, LineResponder.Settles, Lines.promise_of, Responder.Moment, Serving.Serves}
+use Rattle.source_server.specs.{declared.{halt.Halt.Halt, lines.Lines.Lines, served.Served.{Served, TheVariants.Own}}, Lines.{Settles, promise_of}, Responder.Moment, Serving.Serves}
 use Rattle.source_server.specs.declared.halt.Halt.TheVariants as halt
 use Rattle.source_server.proofs.ServedPieces.{none_served, serves_as}
 use Rattle.desk_memory.specs.declared.memory.Memory as memory

@@ -4,7 +4,7 @@ use Rattle.std.specs.Prelude.{if◌then◌else◌}
 use Rattle.std.proofs.lemmas.List.{append-nil}
 use Rattle.report_verifier.specs.Judge.{Judge}
 use Rattle.desk_memory.specs.{declared.device_state.DeviceState.DeviceState, DeviceState.is_new, Entry.Note}
-use Rattle.verifier_desk.specs.{DeskLine.{DeskLine, TooLong, Silent, Foreign, Own, desk_line_of}, DeviceKey.{DeviceKey, key_named}, DeviceLine.DeviceLine, DeviceReply.{answer_after, state_after, state_from}, Law.{IsGoneOn, started_after}, Noted.{entries_after, noted_of, with_noted}, Replies.{DeskFields, answer_line, judge_at, lines_said, mark_at, own_line, own_lines, replies, reply, reply_to, state_at}}
+use Rattle.verifier_desk.specs.{DeskLine.{DeskLine, TooLong, Silent, Foreign, Own, desk_line_of, DeviceLine}, DeviceKey.{DeviceKey, key_named}, DeviceReply.{answer_after, state_after, state_from}, Law.{IsGoneOn, started_after}, Noted.{entries_after, noted_of, with_noted}, Replies.{DeskFields, answer_line, judge_at, lines_said, mark_at, own_line, own_lines, replies, reply, reply_to, state_at}}
 use Rattle.verifier_desk.proofs.Remembered.{IsKnown, device_remembered, line_known}
 
 pub own_lines-append : (devices : List DeviceKey) (name : List ℕ) (later earlier : List (List ℕ))

@@ -4,7 +4,7 @@ use Rattle.std.specs.Prelude.{◌||◌, if◌then◌else◌, nat_lt, OnOk, Resul
 use Rattle.std.proofs.Math.Bool.{or-false}
 use Rattle.std.proofs.lemmas.List.{append-nil, take-append-drop}
 use Rattle.text_scan.specs.Word.{words_of}
-use Rattle.outside_edge.specs.{Sink.{Takes, TakesPrefix}, Count.Rose}
+use Rattle.outside_edge.specs.{Sink.{Takes, TakesPrefix}, Calls.Rose}
 use Rattle.outside_edge.specs.declared.sink.Sink as sink
 use Rattle.outside_edge.proofs.{SinkLemmas.takes_both, Counts.rose_since}
 use Rattle.source_server.specs.{declared.halt.Halt.{Halt, TheVariants.{Write, Own}}, HeldLine.{LONGEST_LINE, short_line}}

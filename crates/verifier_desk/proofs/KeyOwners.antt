@@ -9,7 +9,7 @@ use Rattle.std.proofs.lemmas.Bool.Decides.{nat_tests}
 use Rattle.std.proofs.lemmas.Slice.Eq.{bytes_eq-Decides}
 use Rattle.desk_memory.specs.{declared.{answer.Answer.TheVariants.Stale, device_state.DeviceState.DeviceState}, DeviceState.is_new, Entry.{Entry, Note, entry_at, home_of, is_replaced, last_in, owner_in, with_entry, with_note}, KeyMark.key_mark}
 use Rattle.desk_memory.proofs.Noted.{owner_is_kept, owner_is_noted}
-use Rattle.verifier_desk.specs.{DeskLine.{DeskLine, TooLong, Silent, Foreign, Own, desk_line_of}, DeviceKey.{DeviceKey, key_named}, DeviceLine.DeviceLine, DeviceReply.answer_after, Judged.{JudgedLine, answer_to, entry_after}, KeyOwner.{IsFreeFor, IsKeyBound, IsKeyKept, IsServedIn, IsServedThrough, IsUnderOneName, KeysAreKept, KeysStandApart, KeysStandApartIn}, Law.started_after, Noted.{entries_after, note_at, noted_of, with_noted}, Replies.{DeskFields, judge_at, lines_said, mark_at, own_answer, own_line, state_at}, Run.{AreStarted, Run, entries_through}}
+use Rattle.verifier_desk.specs.{DeskLine.{DeskLine, TooLong, Silent, Foreign, Own, desk_line_of, DeviceLine}, DeviceKey.{DeviceKey, key_named}, DeviceReply.answer_after, Judged.{JudgedLine, answer_to, entry_after}, KeyOwner.{IsFreeFor, IsKeyBound, IsKeyKept, IsServedIn, IsServedThrough, IsUnderOneName, KeysAreKept, KeysStandApart, KeysStandApartIn}, Law.started_after, Noted.{entries_after, note_at, noted_of, with_noted}, Replies.{DeskFields, judge_at, lines_said, mark_at, own_answer, own_line, state_at}, Run.{AreStarted, Run, entries_through}}
 use Rattle.verifier_desk.proofs.{GoneOn.desk_goes_on, KeyPlaces.{IsPlaceOf, place_named, placed}, Remembered.{IsKnown, entry_known, line_known, memory_has_states, own_known_entry, state_known}, Repeated.{HasAnswer, has_answer}, Standing.same_device}
 
 second : (a b c : Bool) → (a && b && c) ≡ true → b ≡ true

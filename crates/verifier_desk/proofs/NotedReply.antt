@@ -2,7 +2,7 @@
 use Rattle.std.proofs.Common.{◌≡◌, ◌∙◌, ℕ, Bool, true, false, List, ◌∷◌, Option, Some, None, Ok, refl, ap, sym, subst}
 use Rattle.std.specs.Prelude.{if◌then◌else◌}
 use Rattle.desk_memory.specs.{declared.{memory.Memory.Ghosts, device_state.DeviceState.DeviceState}, DeviceState.is_new, Entry.{Entry, Note}, KeyMark.key_mark}
-use Rattle.verifier_desk.specs.{Answering.NotesIf, DeskLine.Own, DeviceKey.DeviceKey, DeviceLine.DeviceLine, Noted.{note_at, noted_of, with_noted}, Replies.{DeskFields, state_at}}
+use Rattle.verifier_desk.specs.{Answering.NotesIf, DeskLine.{Own, DeviceLine}, DeviceKey.DeviceKey, Noted.{note_at, noted_of, with_noted}, Replies.{DeskFields, state_at}}
 
 -- a note was made, or none
 pub record Notes {M : Type 0} (m : Ghosts M) (old new : M) (is : Bool) (noted : Option Note)

@@ -8,7 +8,7 @@ use Rattle.std.proofs.Math.Seq.{get_or-append_seam}
 use Rattle.std.proofs.lemmas.Bool.{cases_Bool, cond-true, cond-false, false≢true}
 use Rattle.std.proofs.lemmas.List.{get_or_append_left, get_or_default}
 use Rattle.std.proofs.lemmas.Slice.Eq.{bytes_eq-Decides}
-use Rattle.verifier_desk.specs.{DeviceKey.{DeviceKey, has_key, key_named}, Places.ArePlaced, Standing.AreDistinct}
+use Rattle.verifier_desk.specs.{DeviceKey.{DeviceKey, has_key, key_named, ArePlaced}, Standing.AreDistinct}
 use Rattle.verifier_desk.proofs.KeyPlaces.{IsPlaceOf, front_or_end, no_device, place_named, placed, unnamed}
 
 -- no device has this word

@@ -9,7 +9,7 @@ use Rattle.text_scan.specs.{declared.fault_kind.FaultKind.FaultKind, Decimal.dec
 use Rattle.desk_memory.specs.{declared.device_state.DeviceState.DeviceState, DeviceState.{is_new, with_answer}, Entry.{Entry, Home, Note, entry_at, home_of, last_in, state_under, with_entry, with_note}, KeyMark.key_mark}
 use Rattle.desk_memory.proofs.Noted.{entry_is_last}
 use Rattle.source_server.specs.HeldLine.{LONGEST_LINE}
-use Rattle.verifier_desk.specs.{DeskLine.{DeskLine, TooLong, Silent, Foreign, Own, is_verb, own_or_foreign, desk_line_of_words, desk_line_of}, DeviceKey.{DeviceKey, key_named}, DeviceLine.DeviceLine, DeviceReply.{new_answer, state_after, state_from}, Judged.{entry_after, entry_through, judged_by}, Law.{IsRemembered, judged_at}, Noted.{entries_after, noted_of, with_noted}, Replies.{DeskFields, judge_at, lines_said, mark_at, state_at}, Standing.with_said}
+use Rattle.verifier_desk.specs.{DeskLine.{DeskLine, TooLong, Silent, Foreign, Own, is_verb, own_or_foreign, desk_line_of_words, desk_line_of, DeviceLine}, DeviceKey.{DeviceKey, key_named}, DeviceReply.{new_answer, state_after, state_from}, Judged.{entry_after, entry_through, judged_by}, Law.{IsRemembered, judged_at}, Noted.{entries_after, noted_of, with_noted}, Replies.{DeskFields, judge_at, lines_said, mark_at, state_at}, Standing.with_said}
 
 -- a line of a device is of one that the desk has
 abbrev pub IsKnown : List DeviceKey → DeskLine → Type 0

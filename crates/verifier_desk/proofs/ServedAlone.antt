@@ -7,7 +7,7 @@ use Rattle.std.proofs.lemmas.Bool.{cases_Bool, false≢true}
 use Rattle.std.proofs.lemmas.Slice.Eq.{bytes_eq-Decides}
 use Rattle.text_scan.specs.{declared.fault_kind.FaultKind.FaultKind, Decimal.decimal_of, Word.words_of}
 use Rattle.source_server.specs.HeldLine.{LONGEST_LINE}
-use Rattle.verifier_desk.specs.{DeskLine.{DeskLine, TooLong, Silent, Foreign, Own, is_verb, own_or_foreign, desk_line_of_words, desk_line_of}, DeviceKey.{DeviceKey, key_named}, DeviceLine.DeviceLine, Replies.{DeskFields, answer_line, own_answer, own_line, own_lines, reply_to, reply, replies}, Law.{alone, is_named, is_of, lines_of_device, replies_to_device, IsServedAlone}}
+use Rattle.verifier_desk.specs.{DeskLine.{DeskLine, TooLong, Silent, Foreign, Own, is_verb, own_or_foreign, desk_line_of_words, desk_line_of, DeviceLine}, DeviceKey.{DeviceKey, key_named}, Replies.{DeskFields, answer_line, own_answer, own_line, own_lines, reply_to, reply, replies}, Law.{alone, is_named, is_of, lines_of_device, replies_to_device, IsServedAlone}}
 
 -- the key of its name is the device's own
 own_key : (devices : List DeviceKey) (device : DeviceKey) (name : List ℕ)

@@ -9,7 +9,7 @@ use Rattle.std.proofs.lemmas.Bool.Decides.{nat_tests}
 use Rattle.std.proofs.lemmas.Slice.Eq.{bytes_eq-Decides}
 use Rattle.report_verifier.specs.{Judge.Judge, Policy.PolicyFields}
 use Rattle.desk_memory.specs.declared.device_state.DeviceState.{DeviceState}
-use Rattle.verifier_desk.specs.{DeskLine.Own, DeviceKey.DeviceKey, DeviceLine.DeviceLine, Replies.{DeskFields, judge_at, state_at}, Standing.{IsKeptAtItsPlace, StatesStand, with_said}}
+use Rattle.verifier_desk.specs.{DeskLine.{Own, DeviceLine}, DeviceKey.DeviceKey, Replies.{DeskFields, judge_at, state_at}, Standing.{IsKeptAtItsPlace, StatesStand, with_said}}
 
 set-here : (states : List DeviceState) (place : ℕ) (state s : DeviceState) → place < length states
     → slice_index_or (slice_set states place state) place s ≡ state

@@ -1,7 +1,7 @@
 -- What answering one line does to a desk's memory.
 use Rattle.std.specs.Prelude.{◌≡◌, ◌≤◌, ℕ, Bool, true, false, List, Result, Ok, Err, None, IsTrue}
 use Rattle.desk_memory.specs.{declared.{memory.Memory.Ghosts, memory_fault.MemoryFault.MemoryFault}, Entry.{Entry, Note, with_note}}
-use Rattle.verifier_desk.specs.{declared.{answer_fault.AnswerFault.{AnswerFault, TheVariants.{Memory, Unkept}}, desk.Desk.Desk}, Desk.DeskStandsFor, DeskLine.DeskLine, DeviceLine.DeviceLine, Noted.{noted_of, with_noted}, Replies.{DeskFields, gives_report, reply_to}, Reply.ReplyFields, Standing.with_said, Serving.HasFailed}
+use Rattle.verifier_desk.specs.{declared.{answer_fault.AnswerFault.{AnswerFault, TheVariants.{Memory, Unkept}}, desk.Desk.Desk}, Desk.DeskStandsFor, DeskLine.{DeskLine, DeviceLine}, Noted.{noted_of, with_noted}, Replies.{DeskFields, gives_report, reply_to}, Reply.ReplyFields, Standing.with_said, Serving.HasFailed}
 
 -- whatever the memory does: it is no more honest, and a crash leaves no more than before
 pub record OnlyNotes {M : Type 0} (m : Ghosts M) (old new : M) : Type 0 where

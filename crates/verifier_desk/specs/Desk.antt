@@ -4,7 +4,7 @@ use Rattle.sha2.specs.Sha256.{sha256}
 use Rattle.mem_map.specs.Image.{byte_in}
 use Rattle.report_verifier.specs.Policy.{PolicyFields}
 use Rattle.desk_memory.specs.Entry.{Entry}
-use Rattle.verifier_desk.specs.{declared.desk.Desk.Desk, DeviceKey.DeviceKey, DeviceLine.DeviceLine, Replies.DeskFields, Standing.{AreDistinct, StatesStand}}
+use Rattle.verifier_desk.specs.{declared.desk.Desk.Desk, DeviceKey.DeviceKey, DeskLine.DeviceLine, Replies.DeskFields, Standing.{AreDistinct, StatesStand}}
 
 pub record DeskStandsFor (desk : Desk) (fields : DeskFields) (lines : List ℕ → List DeviceLine)
     : Type 0 where

@@ -1,10 +1,8 @@
 -- The file of keys: one line a device, with its name and its key; and the first fault.
-use Rattle.std.specs.Prelude.{ℕ, ◌==◌, ◌||◌, Bool, List, [], ◌∷◌, ◌++◌, length, if◌then◌else◌, nat_lt, Option, Some, None, Result, Ok, Err, codes}
-use Rattle.std.specs.Char.{is_ascii_alphanumeric}
-use Rattle.std.specs.List.{list_all, list_any}
-use Rattle.std.specs.Option.{is_some}
-use Rattle.std.specs.Str.{bytes_eq}
+use Rattle.std.specs.{Prelude.{ℕ, ◌==◌, ◌||◌, Bool, List, [], ◌∷◌, ◌++◌, length, if◌then◌else◌, nat_lt, Option, Some, None, Result, Ok, Err, codes, ◌+◌, ◌≡◌, ◌<◌, slice_index_or}, Char.is_ascii_alphanumeric, List.{list_all, list_any}, Option.is_some, Str.bytes_eq, BTreeMap.get_by, Cmp.Lexicographic.slice_cmp, Ordering.nat_cmp}
 use Rattle.text_scan.specs.{declared.{fault_at.FaultAt.FaultAt, fault_kind.FaultKind.{FaultKind, TheVariants.{Digit, Count, Twice}}}, LineFold.text_fold, Reader.◌>>=◌, Word.{words_of, next_word, keyword_of, end_of}, WordValue.hex_block_of}
+use Rattle.desk_memory.specs.Entry.{Entry, home_of, last_in}
+use Rattle.verifier_desk.specs.declared.places.Places.{Places}
 
 pub record DeviceKey : Type 0 where
   pub name : List ℕ
@@ -56,3 +54,25 @@ with_line devices line = do
 -- the devices in the order of the file, or the first fault
 abbrev pub devices_of : List ℕ → Result (List DeviceKey) FaultAt
 devices_of text = text_fold with_line [] text
+
+-- The devices of a desk that are gone to another one.
+
+-- the place of the first of these devices that is gone, where the first of all has this place
+abbrev pub first_gone : List Entry → ℕ → List DeviceKey → Option ℕ
+first_gone entries place [] = None
+first_gone entries place (device ∷ devices) =
+    if is_some (home_of (last_in entries device.name)).gone then Some place
+    else first_gone entries (place + 1) devices
+
+-- The places of words in a list of devices.
+
+-- the place of a word, if it has one
+abbrev pub place_in : Places → List ℕ → Option ℕ
+place_in places word = get_by (λ k. slice_cmp nat_cmp word k.items) places.places
+
+-- each device's word has the device's place
+abbrev pub ArePlaced :
+    (DeviceKey → List ℕ) → List DeviceKey → (List ℕ → Option ℕ) → Type 0
+ArePlaced word devices place =
+    (i : ℕ) (d : DeviceKey) → i < length devices
+    → place (word (slice_index_or devices i d)) ≡ Some i

@@ -6,7 +6,7 @@ use Rattle.text_scan.specs.{declared.fault_kind.FaultKind.{FaultKind, TheVariant
 use Rattle.report_text.specs.ReportFile.{report2_of}
 use Rattle.report_verifier.specs.{declared.asked.Asked.Asked, Expectation.count_bytes, Judge.Judge, Policy.expectation, Verdict.verdict}
 use Rattle.desk_memory.specs.{declared.{answer.Answer.{Answer, TheVariants.{Bad, Spent, Requested, Judged}}, device_state.DeviceState.DeviceState}, DeviceState.{by_number, is_new, with_answer}}
-use Rattle.verifier_desk.specs.DeviceLine.{DeviceLine}
+use Rattle.verifier_desk.specs.DeskLine.{DeviceLine}
 
 -- the greatest counter of a request
 abbrev pub LAST_COUNT : ℕ

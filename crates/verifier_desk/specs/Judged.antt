@@ -2,7 +2,7 @@
 use Rattle.std.specs.Prelude.{ℕ, Bool, List, [], ◌∷◌, if◌then◌else◌, map, Option, Some}
 use Rattle.report_verifier.specs.Judge.{Judge}
 use Rattle.desk_memory.specs.{declared.{answer.Answer.Answer, device_state.DeviceState.DeviceState}, DeviceState.is_new, Entry.{Entry, entry_at, home_of, state_under}, KeyMark.key_mark}
-use Rattle.verifier_desk.specs.{DeviceLine.DeviceLine, DeviceReply.{answer_after, state_after}}
+use Rattle.verifier_desk.specs.{DeskLine.DeviceLine, DeviceReply.{answer_after, state_after}}
 
 -- a line, and what it was judged by: another run may have another image, policy or key
 pub record JudgedLine : Type 0 where

@@ -1,7 +1,7 @@
 -- Under which name each key stands.
 use Rattle.std.specs.Prelude.{◌≡◌, ◌<◌, ◌⊎◌, ◌++◌, ℕ, List, [], ◌∷◌, length, slice_index_or, Option, Some, None}
 use Rattle.desk_memory.specs.{declared.answer.Answer.TheVariants.Stale, Entry.{Entry, owner_in}, KeyMark.key_mark}
-use Rattle.verifier_desk.specs.{DeskLine.{Own, desk_line_of}, DeviceKey.DeviceKey, DeviceLine.DeviceLine, Noted.entries_after, Replies.{DeskFields, lines_said, mark_at, own_answer}, Run.{AreStarted, Run}}
+use Rattle.verifier_desk.specs.{DeskLine.{Own, desk_line_of, DeviceLine}, DeviceKey.DeviceKey, Noted.entries_after, Replies.{DeskFields, lines_said, mark_at, own_answer}, Run.{AreStarted, Run}}
 
 -- a key stands under no other name than this
 abbrev pub IsFreeFor : List ℕ → Option (List ℕ) → Type 0

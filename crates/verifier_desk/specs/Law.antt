@@ -8,7 +8,7 @@ use Rattle.text_scan.specs.declared.fault_kind.FaultKind.{FaultKind}
 use Rattle.report_text.specs.ReportFile.{report2_of}
 use Rattle.report_verifier.specs.{declared.verdict.Verdict.TheVariants.Accept, Judge.Judge}
 use Rattle.desk_memory.specs.{declared.{answer.Answer.{Answer, TheVariants.{Stale, Requested, Judged}}, device_state.DeviceState.DeviceState}, DeviceState.is_new, Entry.{Entry, last_in}}
-use Rattle.verifier_desk.specs.{DeskLine.{DeskLine, Own, desk_line_of}, DeviceKey.{DeviceKey, key_named}, DeviceLine.DeviceLine, DeviceReply.{answer_after, desk_challenge}, Judged.{JudgedLine, answer_to, entry_after, entry_through, is_new_to, judged_by, mark_of}, Noted.entries_after, Replies.{DeskFields, judge_at, own_lines, replies, reply}}
+use Rattle.verifier_desk.specs.{DeskLine.{DeskLine, Own, desk_line_of, DeviceLine}, DeviceKey.{DeviceKey, key_named}, DeviceReply.{answer_after, desk_challenge}, Judged.{JudgedLine, answer_to, entry_after, entry_through, is_new_to, judged_by, mark_of}, Noted.entries_after, Replies.{DeskFields, judge_at, own_lines, replies, reply}}
 
 -- a desk that serves one device alone
 abbrev pub alone : DeskFields → DeviceKey → DeskFields

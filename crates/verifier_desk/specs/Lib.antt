@@ -2,16 +2,12 @@ pub mod Answering
 pub mod Desk
 pub mod DeskLine
 pub mod DeviceKey
-pub mod DeviceLine
 pub mod DeviceReply
-pub mod Gone
 pub mod Judged
 pub mod KeyMessage
 pub mod KeyOwner
 pub mod Law
 pub mod Noted
-pub mod OwnLine
-pub mod Places
 pub mod Replies
 pub mod Reply
 pub mod Run

@@ -1,7 +1,7 @@
 -- What a desk notes in its memory: the state of a device after each of its lines with a new number.
 use Rattle.std.specs.Prelude.{ℕ, List, [], ◌∷◌, if◌then◌else◌, Option, Some, None}
 use Rattle.desk_memory.specs.{DeviceState.is_new, Entry.{Entry, Note, with_note}}
-use Rattle.verifier_desk.specs.{DeskLine.{DeskLine, Own, desk_line_of}, DeviceKey.DeviceKey, DeviceLine.DeviceLine, Replies.{DeskFields, lines_said, mark_at, state_at}}
+use Rattle.verifier_desk.specs.{DeskLine.{DeskLine, Own, desk_line_of, DeviceLine}, DeviceKey.DeviceKey, Replies.{DeskFields, lines_said, mark_at, state_at}}
 
 -- the note of a device after these lines of it
 abbrev pub note_at : DeskFields → DeviceKey → List DeviceLine → Note

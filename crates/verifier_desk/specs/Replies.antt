@@ -5,10 +5,10 @@ use Rattle.std.specs.Str.{bytes_eq}
 use Rattle.part_definitions.specs.Request.{request_token}
 use Rattle.printed_lines.specs.Line.{line_of}
 use Rattle.report_text.specs.RequestLine.{request_pieces}
-use Rattle.report_verifier.specs.{VerdictName.verdict_name, Expectation.count_bytes, Judge.Judge, Policy.PolicyFields}
+use Rattle.report_verifier.specs.{Verdict.verdict_name, Expectation.count_bytes, Judge.Judge, Policy.PolicyFields}
 use Rattle.desk_memory.specs.{declared.{answer.Answer.{Answer, TheVariants.{Stale, Bad, Spent, Requested, Judged}}, device_state.DeviceState.DeviceState}, Entry.{Entry, last_in, state_under}, KeyMark.key_mark}
 use Rattle.text_scan.specs.FaultName.{fault_name}
-use Rattle.verifier_desk.specs.{DeskLine.{DeskLine, TooLong, Silent, Foreign, Own, desk_line_of}, DeviceKey.DeviceKey, DeviceLine.DeviceLine, DeviceReply.{answer_after, desk_challenge, is_new_give, state_from}}
+use Rattle.verifier_desk.specs.{DeskLine.{DeskLine, TooLong, Silent, Foreign, Own, desk_line_of, DeviceLine}, DeviceKey.DeviceKey, DeviceReply.{answer_after, desk_challenge, is_new_give, state_from}}
 
 -- whom a desk serves, what it judges reports by, and what its memory has as it starts
 pub record DeskFields : Type 0 where

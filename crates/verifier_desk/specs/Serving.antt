@@ -1,6 +1,6 @@
 -- What a desk that serves a source puts into a sink, and what a crash leaves of its memory.
 use Rattle.std.specs.Prelude.{◌≡◌, ◌⊎◌, ◌++◌, ℕ, List, [], ◌∷◌, IsTrue}
-use Rattle.outside_edge.specs.{Count.Rose, Sink.Takes}
+use Rattle.outside_edge.specs.{Calls.Rose, Sink.Takes}
 use Rattle.outside_edge.specs.declared.sink.Sink as sink
 use Rattle.source_server.specs.{declared.halt.Halt.{Halt, TheVariants.{Write, Own}}, LineCut.{all_lines, whole_lines}, Lines.StopsAmong, Responder.Promise}
 use Rattle.desk_memory.specs.declared.memory.Memory as memory

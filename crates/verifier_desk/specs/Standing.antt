@@ -1,7 +1,7 @@
 -- The states of a desk's devices stand for what each device's lines are.
 use Rattle.std.specs.Prelude.{◌≡◌, ◌<◌, ◌++◌, ◌∷◌, ℕ, List, length, slice_index_or, slice_set}
 use Rattle.desk_memory.specs.declared.device_state.DeviceState.{DeviceState}
-use Rattle.verifier_desk.specs.{DeskLine.{DeskLine, Own}, DeviceKey.DeviceKey, DeviceLine.DeviceLine, Replies.{DeskFields, own_line, state_at}}
+use Rattle.verifier_desk.specs.{DeskLine.{DeskLine, Own, DeviceLine}, DeviceKey.DeviceKey, Replies.{DeskFields, own_line, state_at}}
 
 -- no two devices have one name
 abbrev pub AreDistinct : List DeviceKey → Type 0

@@ -1,7 +1,7 @@
 -- Within a serving: replies that are held back until the memory has settled.
 use Rattle.std.specs.Prelude.{◌≡◌, ◌≤◌, ◌++◌, ℕ, false, List, Result, OnOk, IfErr}
 use Rattle.outside_edge.specs.declared.sink.Sink as sink
-use Rattle.source_server.specs.{declared.halt.Halt.{Halt, TheVariants.Own}, LineResponder.LinePromise, Responder.Moment}
+use Rattle.source_server.specs.{declared.halt.Halt.{Halt, TheVariants.Own}, Lines.LinePromise, Responder.Moment}
 use Rattle.desk_memory.specs.declared.memory.Memory as memory
 use Rattle.verifier_desk.specs.{declared.{answer_fault.AnswerFault.{AnswerFault, TheVariants.Memory}, desk.Desk.Desk, desk_responder.DeskResponder.DeskResponder}, Desk.DeskStandsFor, Noted.entries_after, Replies.{DeskFields, lines_said, replies}, Serving.{HasAnswered, HasPut, Keeps, Outside, StopsAt}, Withheld.{Withheld, nothing_withheld}}
 

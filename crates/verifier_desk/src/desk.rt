@@ -3,7 +3,7 @@ ghost use Rattle.sha2.specs.Sha256.{sha256};
 ghost use Rattle.mem_map.specs.Image.{byte_in};
 ghost use Rattle.text_scan.specs.Word.{words_of};
 ghost use Rattle.desk_memory.specs.{Entry.{last_in, state_under}, KeyMark.key_mark};
-ghost use Rattle.verifier_desk.specs.{declared.desk_line.SaidLine.TheVariants.Silent, DeskLine.{Own, desk_line_of_words}, DeviceKey.{DeviceKey as DeviceFields, key_named}, DeviceLine.DeviceLine, OwnLine.{line_in, own_or_none, said_at}, Replies.DeskFields, Reply.reply_in};
+ghost use Rattle.verifier_desk.specs.{declared.desk_line.SaidLine.TheVariants.Silent, DeskLine.{Own, desk_line_of_words, line_in, own_or_none, said_at, DeviceLine}, DeviceKey.{DeviceKey as DeviceFields, key_named}, Replies.DeskFields, Reply.reply_in};
 
 use crate::answer_fault::AnswerFault;
 use crate::answer_text::answer_line;

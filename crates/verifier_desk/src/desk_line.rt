@@ -1,6 +1,6 @@
 ghost use Rattle.std.specs.Prelude.{◌≡◌, ◌∷◌, List};
 ghost use Rattle.text_scan.specs.Word.{words_of};
-ghost use Rattle.verifier_desk.specs.{DeskLine.desk_line_of_words, DeviceKey.DeviceKey, OwnLine.said_at};
+ghost use Rattle.verifier_desk.specs.{DeskLine.{desk_line_of_words, said_at}, DeviceKey.DeviceKey};
 
 use text_scan::{Words, decimal};
 

@@ -4,7 +4,7 @@ ghost use Rattle.sha2.specs.Sha256.{sha256};
 ghost use Rattle.desk_memory.specs.DeviceState.{is_new};
 ghost use Rattle.text_scan.specs.Word.{words_of};
 ghost use Rattle.report_text.specs.ReportFile.{report2_of};
-ghost use Rattle.verifier_desk.specs.{DeviceReply.{answer_after, answer_to_ask, answer_to_give, is_new_give, new_answer, request_with, state_after}, OwnLine.line_in};
+ghost use Rattle.verifier_desk.specs.{DeviceReply.{answer_after, answer_to_ask, answer_to_give, is_new_give, new_answer, request_with, state_after}, DeskLine.line_in};
 
 use crate::challenge::desk_challenge;
 use crate::desk_line::OwnLine;

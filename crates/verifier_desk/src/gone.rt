@@ -1,7 +1,7 @@
 ghost use Rattle.std.specs.Prelude.{◌≡◌};
 ghost use Rattle.std.specs.Option.{is_some};
 ghost use Rattle.desk_memory.specs.Entry.{home_of, last_in};
-ghost use Rattle.verifier_desk.specs.Gone.{first_gone};
+ghost use Rattle.verifier_desk.specs.DeviceKey.{first_gone};
 
 use crate::key_list::KeyList;
 use desk_memory::{Entry, home_in};

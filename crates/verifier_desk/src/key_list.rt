@@ -22,7 +22,7 @@ pub struct KeyList {
 /// Seen as its devices.
 impl Model for KeyList {
     ghost use Rattle.std.specs.Prelude.{List};
-    ghost use Rattle.verifier_desk.specs.{DeviceKey.DeviceKey as DeviceFields, Places.{ArePlaced, place_in}, Standing.AreDistinct};
+    ghost use Rattle.verifier_desk.specs.{DeviceKey.{DeviceKey as DeviceFields, ArePlaced, place_in}, Standing.AreDistinct};
 
     ghost Value = { List DeviceFields };
 

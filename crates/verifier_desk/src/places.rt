@@ -12,7 +12,7 @@ pub struct Places {
 }
 
 impl Places {
-    ghost use Rattle.verifier_desk.specs.Places.{place_in};
+    ghost use Rattle.verifier_desk.specs.DeviceKey.{place_in};
 
     pub fn new(alloc: Global) -> Places
         ensures { place_in result ≡ (λ word. None) }

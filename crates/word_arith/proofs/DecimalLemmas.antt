@@ -2,7 +2,7 @@
 use Rattle.std.proofs.Common.{◌≡◌, ℕ, zero, suc, ◌<◌, ◌+◌, ◌*◌, ◌/◌, ◌%◌, ◌^◌, Bool, true, false, nat_le, refl, ap, arith}
 use Rattle.std.proofs.lemmas.Bool.Decides.{nat_tests}
 use Rattle.std.proofs.Math.Nat.{pow-suc}
-use Rattle.word_arith.specs.{Number.bit_of, Decimal.digit_of, DecimalNumber.{coded_decimal, DecimalSumIsOfNumbers}}
+use Rattle.word_arith.specs.{Number.bit_of, Decimal.{digit_of, coded_decimal, DecimalSumIsOfNumbers}}
 
 -- what the places above the lowest add up to
 higher_sum : (left right carry : ℕ) → carry < 2

@@ -1,4 +1,3 @@
-pub mod Word16
 pub mod Number
 pub mod Flags
 pub mod Sum
@@ -6,4 +5,3 @@ pub mod Decimal
 pub mod Op2
 pub mod Op1
 pub mod SignedNumber
-pub mod DecimalNumber

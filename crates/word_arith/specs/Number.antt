@@ -1,6 +1,10 @@
 -- Operands of 8 or 16 bits as whole numbers.
 use Rattle.std.specs.Prelude.{◌-◌, ◌/◌, ◌%◌, ℕ, Bool, true, false, nat_le}
-use Rattle.word_arith.specs.{declared.size.Size.{Size, TheVariants.{Byte, Word}}, Word16.Word16}
+use Rattle.word_arith.specs.declared.size.Size.{Size, TheVariants.{Byte, Word}}
+
+-- a word of 16 bits, as a number
+abbrev pub Word16 : Type 0
+Word16 = ℕ
 
 -- how many numbers there are of a size: an operand is below it
 abbrev pub modulus : Size → ℕ

@@ -1,6 +1,6 @@
 -- Operations of one operand: result and flags, one line an operation.
 use Rattle.std.specs.Prelude.{◌+◌, ◌*◌, ◌/◌, ◌%◌, ℕ, Bool, false, not, ◌==◌, if◌then◌else◌}
-use Rattle.word_arith.specs.{declared.{size.Size.{Size, TheVariants.{Byte, Word}}, flags.Flags.Flags, op1.Op1.{Op1, TheVariants.{Rrc, Swpb, Rra, Sxt}}}, Number.{modulus, low_part, is_negative, bit_of}, Flags.result_flags, Word16.Word16}
+use Rattle.word_arith.specs.{declared.{size.Size.{Size, TheVariants.{Byte, Word}}, flags.Flags.Flags, op1.Op1.{Op1, TheVariants.{Rrc, Swpb, Rra, Sxt}}}, Number.{modulus, low_part, is_negative, bit_of, Word16}, Flags.result_flags}
 
 -- half the operand, with a bit put in at the top; C is the bit that leaves, and V is 0
 abbrev pub shift_of : Size → Word16 → Bool → ℕ × Flags

@@ -1,6 +1,6 @@
 -- Operations of two operands: result and flags, one line an operation.
 use Rattle.std.specs.Prelude.{ℕ, Bool, true, false, not, ◌&&◌, ◌==◌, bit_and, bit_or, bit_xor}
-use Rattle.word_arith.specs.{declared.{size.Size.Size, flags.Flags.Flags, op2.Op2.{Op2, TheVariants.{Mov, Add, Addc, Subc, Sub, Cmp, Dadd, Bit, Bic, Bis, Xor, And}}}, Number.{low_part, inverse, is_negative}, Flags.result_flags, Sum.sum_of, Decimal.decimal_sum, Word16.Word16}
+use Rattle.word_arith.specs.{declared.{size.Size.Size, flags.Flags.Flags, op2.Op2.{Op2, TheVariants.{Mov, Add, Addc, Subc, Sub, Cmp, Dadd, Bit, Bic, Bis, Xor, And}}}, Number.{low_part, inverse, is_negative, Word16}, Flags.result_flags, Sum.sum_of, Decimal.decimal_sum}
 
 -- a result whose carry says that it is not 0
 abbrev pub test_of : Size → ℕ → Bool → ℕ × Flags

@@ -1,4 +1,4 @@
-ghost use Rattle.word_arith.specs.{SignedNumber.{OverflowIsSigned, ComparisonOrders}, DecimalNumber.DecimalSumIsOfNumbers};
+ghost use Rattle.word_arith.specs.{SignedNumber.{OverflowIsSigned, ComparisonOrders}, Decimal.DecimalSumIsOfNumbers};
 
 /// The law of V in binary sums: it is clear exactly where the result stands for the signed sum.
 #[tactic(auto, using(crate::proofs::SignedLemmas::overflow_is_signed))]

@@ -1,5 +1,5 @@
 ghost use Rattle.std.specs.Prelude.{◌≡◌, Bool, List, ℕ, Option};
-ghost use Rattle.input_files.specs.Argument.{texts};
+ghost use Rattle.input_files.specs.CommandLine.{texts};
 ghost use Rattle.device_cli.specs.{Row.Row, Unanswered.behind_all};
 
 /// Whether the word `--all` stands in front of arguments, and the others.

@@ -18,7 +18,7 @@ pub struct Asm<'a> {
 impl<'a> Task<'a> for Asm<'a> {
     ghost use Rattle.mem_map.specs.Image.{byte_in};
     ghost use Rattle.hex_loader.specs.HexText.{hex_text};
-    ghost use Rattle.device_cli.specs.{Asm.{asm_row, asm_row_of}, Row.plain};
+    ghost use Rattle.device_cli.specs.{Command.{asm_row, asm_row_of}, Row.plain};
 
     type Values = mem_map::Image;
 

@@ -16,7 +16,7 @@ pub struct Audit<'a> {
 }
 
 impl<'a> Task<'a> for Audit<'a> {
-    ghost use Rattle.device_cli.specs.Audit.{audit_row, audit_row_of, audit_outcome};
+    ghost use Rattle.device_cli.specs.Command.{audit_row, audit_row_of, audit_outcome};
 
     type Values = Audited;
 

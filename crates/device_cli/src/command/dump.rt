@@ -4,7 +4,7 @@ use device_play::DumpWatcher;
 /// The command `dump`.
 impl Telling for DumpWatcher {
     ghost use Rattle.std.specs.Prelude.{refl};
-    ghost use Rattle.device_cli.specs.{Dump.dump_text, Play.text_outcome};
+    ghost use Rattle.device_cli.specs.{Command.dump_text, Play.text_outcome};
 
     ghost outcome = { text_outcome dump_text };
 

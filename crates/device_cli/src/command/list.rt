@@ -17,7 +17,7 @@ pub struct List<'a> {
 impl<'a> Task<'a> for List<'a> {
     ghost use Rattle.mem_map.specs.Image.{byte_in};
     ghost use Rattle.msp_asm.specs.Listing.{listing};
-    ghost use Rattle.device_cli.specs.{List.{list_row, list_row_of}, Row.plain};
+    ghost use Rattle.device_cli.specs.{Command.{list_row, list_row_of}, Row.plain};
 
     type Values = mem_map::Image;
 

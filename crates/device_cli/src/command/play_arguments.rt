@@ -17,7 +17,7 @@ pub struct PlayArguments<'a> {
 
 impl<'a> PlayArguments<'a> {
     ghost use Rattle.std.specs.Prelude.{◌≡◌, option_map};
-    ghost use Rattle.input_files.specs.Argument.{texts};
+    ghost use Rattle.input_files.specs.CommandLine.{texts};
     ghost use Rattle.device_cli.specs.Play.{PlayOutcome, steps_row, steps_row_of};
 
     /// Those that are spelled. STEPS is a decimal in 1..10,000,000.

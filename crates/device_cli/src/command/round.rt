@@ -41,7 +41,7 @@ pub struct RoundValues {
 
 impl<'a> Round<'a> {
     ghost use Rattle.std.specs.Prelude.{◌≡◌, option_map};
-    ghost use Rattle.input_files.specs.Argument.{texts};
+    ghost use Rattle.input_files.specs.CommandLine.{texts};
     ghost use Rattle.device_cli.specs.Round.{round_row, round_row_with};
 
     // The command that the arguments spell, with the word `--all` or without it.

@@ -17,8 +17,8 @@ use play_script::Script;
 pub trait Telling: Watcher + Copy {
     ghost use Rattle.std.specs.Prelude.{◌≡◌, [], Some, true};
     ghost use Rattle.part_definitions.specs.Hmac.{Digest};
-    ghost use Rattle.device_trace.specs.{Play.Play, Start.Start};
-    ghost use Rattle.device_cli.specs.{Play.PlayOutcome, Row.{DevicePlay, Outcome}, Told.IsToldBy};
+    ghost use Rattle.device_trace.specs.{Trace.Play, Start.Start};
+    ghost use Rattle.device_cli.specs.{Play.PlayOutcome, Row.{DevicePlay, Outcome, IsToldBy}};
 
     /// What is put of a play.
     ghost outcome: { PlayOutcome };

@@ -5,7 +5,7 @@ use device_play::TraceWatcher;
 impl Telling for TraceWatcher {
     ghost use Rattle.std.specs.Prelude.{refl};
     ghost use Rattle.trace_files.specs.TraceText.{trace_text};
-    ghost use Rattle.device_cli.specs.{Play.text_outcome, Trace.ReadsBack};
+    ghost use Rattle.device_cli.specs.{Play.text_outcome, Command.ReadsBack};
 
     ghost outcome = { text_outcome trace_text };
 

@@ -4,7 +4,7 @@ use device_play::WaveWatcher;
 /// The command `wave`.
 impl Telling for WaveWatcher {
     ghost use Rattle.std.specs.Prelude.{refl};
-    ghost use Rattle.device_cli.specs.{Play.text_outcome, Wave.wave_text};
+    ghost use Rattle.device_cli.specs.{Play.text_outcome, Command.wave_text};
 
     ghost outcome = { text_outcome wave_text };
 

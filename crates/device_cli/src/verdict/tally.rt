@@ -13,7 +13,7 @@ pub struct Tally {
 impl Tally {
     ghost use Rattle.std.specs.Prelude.{◌≡◌, ◌<◌, ◌^◌, [], IfSome, List};
     ghost use Rattle.report_verifier.specs.declared.verdict.Verdict.{Verdict};
-    ghost use Rattle.device_cli.specs.{Tally.{Counts, tally_with}, Unanswered.first_unanswered, Verdicts.all_accept};
+    ghost use Rattle.device_cli.specs.{Verdicts.{Counts, tally_with, all_accept}, Unanswered.first_unanswered};
 
     pub fn new() -> Tally
         ensures { Counts [] result }

@@ -3,7 +3,7 @@ ghost use Rattle.std.specs.Option.{is_none};
 ghost use Rattle.outside_edge.specs.Sink.{Puts, CountsFaults};
 ghost use Rattle.report_verifier.specs.declared.verdict.Verdict.{Verdict};
 ghost use Rattle.device_trace.specs.Text.{some_line};
-ghost use Rattle.device_cli.specs.{Row.ending_of, Tally.Counts, Unanswered.{unanswered_if, unanswered_line}, Verdicts.all_accept};
+ghost use Rattle.device_cli.specs.{Row.ending_of, Verdicts.{Counts, all_accept}, Unanswered.{unanswered_if, unanswered_line}};
 
 use crate::ending::Ending;
 use crate::verdict::tally::Tally;

@@ -2,7 +2,7 @@ ghost use Rattle.std.specs.Prelude.{◌≡◌, ◌<◌, ◌^◌, IfOk, Some, len
 ghost use Rattle.std.specs.List.{slice_get};
 ghost use Rattle.outside_edge.specs.Sink.{Puts, CountsFaults};
 ghost use Rattle.report_verifier.specs.Judge.{verdict_at, judge_of};
-ghost use Rattle.device_cli.specs.{Tally.Counts, Verdicts.{verdicts, lines_from}};
+ghost use Rattle.device_cli.specs.Verdicts.{Counts, verdicts, lines_from};
 
 use crate::verdict::tally::Tally;
 use hmac_core::Digest32;

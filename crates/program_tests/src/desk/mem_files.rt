@@ -36,7 +36,7 @@ impl Model for MemFiles {
 
 impl MemFiles {
     ghost use Rattle.std.specs.Prelude.{◌≡◌, ◌⊎◌, [], IfErr, IfOk, None, OnOk, Some, false, true};
-    ghost use Rattle.outside_edge.specs.Count.{Rose};
+    ghost use Rattle.outside_edge.specs.Calls.{Rose};
     ghost use Rattle.desk_database.specs.declared.memory_file_fault.MemoryFileFault.TheVariants.{InUse};
 
     /// A memory of these entries, whose call of this number fails once it is opened.
@@ -122,7 +122,7 @@ impl MemFiles {
 
 impl MemoryFiles<MemMemory> for MemFiles {
     ghost use Rattle.std.specs.Prelude.{◌≡◌, ◌⊎◌, None, Some, false};
-    ghost use Rattle.outside_edge.specs.Count.{Rose};
+    ghost use Rattle.outside_edge.specs.Calls.{Rose};
     ghost use Rattle.desk_database.specs.declared.memory_file_fault.MemoryFileFault.TheVariants.{InUse, OutOfMemory};
 
     ghost told = { record {

@@ -1,5 +1,5 @@
 use Rattle.std.proofs.Common.{◌≡◌, Some, rules}
-use Rattle.input_files.specs.Argument.{texts}
+use Rattle.input_files.specs.CommandLine.{texts}
 use Rattle.debug_cli.specs.Session.{live_row, session_row_of}
 use Rattle.debug_cli.proofs.run.run.Goals as goal
 

@@ -1,6 +1,6 @@
 use Rattle.std.proofs.Common.{◌≡◌, ◌<◌, Some, None, inr, length, rules}
 use Rattle.mem_map.specs.Image.{byte_in}
-use Rattle.verifier_desk.specs.{Desk.desk_with, Gone.first_gone}
+use Rattle.verifier_desk.specs.{Desk.desk_with, DeviceKey.first_gone}
 use Rattle.desk_cli.proofs.DeskComplete.{found-as, gone-below}
 use Rattle.desk_cli.proofs.desk.serve_over.Goals as goal
 

@@ -1,5 +1,5 @@
 use Rattle.std.proofs.Common.{◌≡◌, ◌++◌}
-use Rattle.text_scan.specs.Line.{text_lines}
+use Rattle.text_scan.specs.LineFold.{text_lines}
 use Rattle.desk_cli.specs.StateFile.{said_numbers}
 use Rattle.desk_cli.proofs.numbered_entries.said_numbers.Given as goal
 

@@ -1,7 +1,7 @@
 use Rattle.std.proofs.Common.{◌≡◌, ◌++◌, List, IsSome, length, true}
 use Rattle.sqlite_value.specs.Order.{Row}
 use Rattle.sqlite_trees.specs.View.{IsClean, IsQuiet}
-use Rattle.desk_memory.specs.SizedEntry.{are_sized}
+use Rattle.desk_memory.specs.Entry.{are_sized}
 use Rattle.desk_database.specs.{TableOpening.Reads, Rows.rows_from}
 use Rattle.desk_database.proofs.table_reading.read_entries.Given as goal
 

@@ -1,5 +1,5 @@
 use Rattle.std.proofs.Common.{◌≡◌, ◌≤◌, drop, length}
-use Rattle.desk_memory.specs.EntryPlace.{place_for}
+use Rattle.desk_memory.specs.Entry.{place_for}
 use Rattle.desk_memory.proofs.Places.{place_from}
 use Rattle.desk_memory.proofs.entry_place.place_for.Given as goal
 

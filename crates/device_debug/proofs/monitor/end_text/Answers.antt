@@ -4,7 +4,7 @@ use Rattle.debug_walk.specs.Walk.{place_of}
 use Rattle.printed_lines.specs.Line.{end_line}
 use Rattle.device_trace.specs.{Logs.exec_of, Progress.next_pc_of}
 use Rattle.device_play.proofs.IdlePlay.{length-play_of}
-use Rattle.device_debug.specs.GrownText.{GrownText}
+use Rattle.device_debug.specs.Telling.{GrownText}
 use Rattle.device_debug.proofs.GrownTexts.{grown-all}
 use Rattle.device_debug.proofs.monitor.end_text.Goals as goal
 

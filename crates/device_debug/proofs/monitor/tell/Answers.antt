@@ -4,7 +4,7 @@ use Rattle.debug_session.specs.{declared.request.Request.TheVariants.{Flags, Ste
 use Rattle.debug_link.proofs.Bodies.{put_none}
 use Rattle.debug_session.proofs.Views.{view-at}
 use Rattle.debug_walk.specs.Walk.{place_of}
-use Rattle.device_debug.specs.{StepText.text_in, declared.step_text.StepText.TheVariants.{Lines, Trace as TraceText}}
+use Rattle.device_debug.specs.{Telling.text_in, declared.step_text.StepText.TheVariants.{Lines, Trace as TraceText}}
 use Rattle.device_debug.proofs.{AskedTexts.asked-put, RefusalText.puts-none}
 use Rattle.device_debug.proofs.monitor.tell.Goals as goal
 

@@ -1,6 +1,6 @@
 use Rattle.std.proofs.Common.{rules}
 use Rattle.outside_edge.specs.File.{named_files}
-use Rattle.input_files.specs.Argument.{texts}
+use Rattle.input_files.specs.CommandLine.{texts}
 use Rattle.device_cli.specs.Command.{row_of}
 use Rattle.device_library.proofs.CallEnd.{told-call}
 use Rattle.device_library.proofs.call.run_words.Goals as goal

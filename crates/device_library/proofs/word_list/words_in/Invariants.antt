@@ -1,5 +1,5 @@
 use Rattle.std.proofs.Common.{◌≡◌, map, take}
-use Rattle.input_files.specs.Argument.{texts}
+use Rattle.input_files.specs.CommandLine.{texts}
 use Rattle.device_library.proofs.word_list.words_in.Given as goal
 
 abbrev pub invariant-loop-word : goal.invariant-loop-word

@@ -2,7 +2,7 @@ use Rattle.std.proofs.Common.{◌≡◌, ◌∙◌, arith, min, subst}
 use Rattle.device_types.specs.Address.{Bytes}
 use Rattle.debug_session.specs.{Place.sight_at, Shown.bytes_shown}
 use Rattle.outside_edge.specs.Sink.{Puts}
-use Rattle.device_live.specs.{Answer.run_of, StateLines.memory_text}
+use Rattle.device_live.specs.Answer.{run_of, memory_text}
 use Rattle.device_live.proofs.state_lines.print_memory.Goals as goal
 
 pub returns-clause-puts : goal.returns-clause-puts

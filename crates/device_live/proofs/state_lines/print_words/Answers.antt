@@ -3,7 +3,7 @@ use Rattle.std.proofs.lemmas.List.{drop_all}
 use Rattle.device_types.specs.Address.{Bytes}
 use Rattle.outside_edge.specs.Sink.{Puts}
 use Rattle.printed_lines.specs.Line.{with_pieces, word_digits}
-use Rattle.device_live.specs.StateLines.{registers_text}
+use Rattle.device_live.specs.Answer.{registers_text}
 use Rattle.device_live.proofs.state_lines.print_words.Goals as goal
 
 pub returns-clause-puts : goal.returns-clause-puts

@@ -1,5 +1,5 @@
 use Rattle.std.proofs.Common.{◌≡◌, ◌≤◌, ◌<◌, ◌+◌, ◌∙◌, ◌-◌, ◌∷◌, [], ℕ, suc, false, refl, sym, subst, arith, rules}
-use Rattle.device_trace.specs.{Play.Play, Trace.{logs_after, play_of}}
+use Rattle.device_trace.specs.Trace.{Play, logs_after, play_of}
 use Rattle.device_core.specs.{Device.{LiveStandsFor, steps_made}, Quiet.{AreOpen, AreQuiet, IsOpen, IsQuiet}}
 use Rattle.device_core.proofs.QuietSteps.{kept-some}
 use Rattle.device_play.specs.Midway.{IsQuietIn}

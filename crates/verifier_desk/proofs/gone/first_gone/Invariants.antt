@@ -1,5 +1,5 @@
 use Rattle.std.proofs.Common.{◌≡◌, drop}
-use Rattle.verifier_desk.specs.Gone.{first_gone}
+use Rattle.verifier_desk.specs.DeviceKey.{first_gone}
 use Rattle.verifier_desk.proofs.gone.first_gone.Given as goal
 
 abbrev pub invariant-loop-place : goal.invariant-loop-place

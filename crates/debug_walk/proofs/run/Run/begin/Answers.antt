@@ -2,7 +2,7 @@ use Rattle.std.proofs.Common.{◌≡◌, ◌∙◌, refl, sym, subst}
 use Rattle.device_core.specs.declared.live.Live.TheVariants.{Held}
 use Rattle.device_play.proofs.WatchedPlay.{at-count}
 use Rattle.play_script.specs.Script.{events_of}
-use Rattle.debug_walk.specs.{PlayedRun.played_run, Stretch.stretch_from, Walk.IsStretch}
+use Rattle.debug_walk.specs.{Copies.played_run, Stretch.stretch_from, Walk.IsStretch}
 use Rattle.debug_walk.proofs.run.Run.begin.Goals as goal
 
 pub returns-clause-walks : goal.returns-clause-walks

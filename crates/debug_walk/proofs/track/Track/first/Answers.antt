@@ -1,7 +1,7 @@
 use Rattle.std.proofs.Common.{◌≡◌, ◌∙◌, inl, inr, ⊎_elim, ℕ, true, false, [], subst, sym, arith}
 use Rattle.std.proofs.lemmas.Bool.{cases_Bool}
 use Rattle.debug_session.specs.Place.{Run, sight_at}
-use Rattle.debug_walk.specs.{Copies.IsBegun, PlayedRun.played_run, Walk.{IsFresh, IsStretch, place_of}}
+use Rattle.debug_walk.specs.{Copies.{IsBegun, played_run}, Walk.{IsFresh, IsStretch, place_of}}
 use Rattle.debug_walk.proofs.FirstStep.{kept-of-boot}
 use Rattle.debug_walk.proofs.track.Track.first.Goals as goal
 

@@ -1,5 +1,5 @@
 use Rattle.std.proofs.Common.{refl}
-use Rattle.debug_walk.specs.PlayedRun.{played_run}
+use Rattle.debug_walk.specs.Copies.{played_run}
 use Rattle.debug_walk.proofs.track.Track.new.Goals as goal
 
 pub returns-clause-stands : goal.returns-clause-stands

@@ -1,4 +1,4 @@
-use Rattle.debug_walk.specs.PlayedRun.{played_run}
+use Rattle.debug_walk.specs.Copies.{played_run}
 use Rattle.debug_walk.proofs.track.Track.walk_anew.Goals as goal
 
 pub returns-clause-walks : goal.returns-clause-walks

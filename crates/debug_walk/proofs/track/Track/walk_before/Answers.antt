@@ -1,6 +1,6 @@
 use Rattle.std.proofs.Common.{inl, subst}
 use Rattle.std.specs.Prelude.{IfSome}
-use Rattle.debug_walk.specs.{Copies.IsCopy, PlayedRun.played_run}
+use Rattle.debug_walk.specs.Copies.{IsCopy, played_run}
 use Rattle.debug_walk.proofs.Begun.{begun-anew}
 use Rattle.debug_walk.proofs.track.Track.walk_before.Goals as goal
 

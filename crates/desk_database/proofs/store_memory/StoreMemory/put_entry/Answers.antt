@@ -1,6 +1,6 @@
 use Rattle.std.proofs.Common.{◌≡◌, ◌∙◌, List, ap, arith, sym}
 use Rattle.sqlite_trees.specs.View.{IsClean, View}
-use Rattle.desk_memory.specs.{Entry.{Entry, with_entry}, EntryPlace.place_for, SizedEntry.are_sized}
+use Rattle.desk_memory.specs.Entry.{Entry, with_entry, place_for, are_sized}
 use Rattle.desk_database.specs.Rows.{rows_from}
 use Rattle.desk_database.proofs.TableRows.{are_sized-with_entry, put_row-noted}
 use Rattle.desk_database.proofs.store_memory.StoreMemory.put_entry.Goals as goal

@@ -1,5 +1,5 @@
 use Rattle.std.proofs.Common.{◌≡◌, ◌≤◌, ◌*◌, All}
-use Rattle.device_cli.specs.{Limit.lap_steps, Load.{drawn_laps, generator_of}}
+use Rattle.device_cli.specs.{FileKind.lap_steps, Load.{drawn_laps, generator_of}}
 use Rattle.device_cli.proofs.load.load_script.draw_script.Given as goal
 
 abbrev pub invariant-loop-lap : goal.invariant-loop-lap

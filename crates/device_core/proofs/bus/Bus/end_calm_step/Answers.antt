@@ -1,5 +1,5 @@
 use Rattle.std.proofs.Common.{◌≡◌, ◌∷◌, None, false, sym}
-use Rattle.device_types.specs.SeenRecord.{SeenRecord}
+use Rattle.device_types.specs.ExecFlag.{SeenRecord}
 use Rattle.mem_map.specs.Memory.{MemoryStandsFor}
 use Rattle.device_trace.specs.{Logs.{flags_of, flags_shown, logged_bounds, memory_after, with_record}, Progress.last_registers, Signals.{signals_of, value_read}, Step.dma_value_read}
 use Rattle.device_core.proofs.{CalmRegion.{calm_entry, calm-entry, calm-flags, calm-leaves, turn-access, turn-pc}, CalmStep.{calm-peripherals, calm-silent}}

@@ -1,5 +1,5 @@
 use Rattle.std.proofs.Common.{◌≡◌, ◌∷◌, None, refl}
-use Rattle.device_types.specs.SeenRecord.{SeenRecord}
+use Rattle.device_types.specs.ExecFlag.{SeenRecord}
 use Rattle.mem_map.specs.Memory.{MemoryStandsFor}
 use Rattle.device_trace.specs.Logs.{flags_of, flags_shown, logged_bounds, memory_after, with_record}
 use Rattle.device_core.proofs.FlagsShown.{flags-kept}

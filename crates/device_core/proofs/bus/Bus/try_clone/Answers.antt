@@ -1,6 +1,6 @@
 use Rattle.std.proofs.Common.{sym, subst}
 use Rattle.device_trace.specs.Logs.{flags_of}
-use Rattle.device_core.specs.Monitors.{MonitorsStandFor}
+use Rattle.device_core.specs.FlagsKept.{MonitorsStandFor}
 use Rattle.device_core.proofs.bus.Bus.try_clone.Goals as goal
 
 pub returns-clause-stands : goal.returns-clause-stands

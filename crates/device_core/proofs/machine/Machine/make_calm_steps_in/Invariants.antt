@@ -1,5 +1,5 @@
 use Rattle.std.proofs.Common.{◌≡◌, ◌≤◌, ◌-◌, None}
-use Rattle.device_trace.specs.{Play.Play, Start.Start, Trace.logs_after}
+use Rattle.device_trace.specs.{Trace.{Play, logs_after}, Start.Start}
 use Rattle.device_core.specs.{Calm.IsCalmRegion, Machine.PlaysAt, Quiet.{AreOpen, AreQuiet}, Silence.with_idle, declared.stage.Stage.TheVariants.Running}
 use Rattle.device_core.proofs.machine.Machine.make_calm_steps_in.Given as goal
 

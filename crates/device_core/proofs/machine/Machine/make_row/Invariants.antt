@@ -1,5 +1,5 @@
 use Rattle.std.proofs.Common.{◌≤◌, ◌-◌, ◌∷◌, []}
-use Rattle.device_trace.specs.{Play.Play, Start.Start}
+use Rattle.device_trace.specs.{Trace.Play, Start.Start}
 use Rattle.device_core.specs.{Machine.PlaysAt, Quiet.{AreOpen, AreQuiet}, Silence.with_idle}
 use Rattle.device_core.proofs.machine.Machine.make_row.Given as goal
 

@@ -1,8 +1,8 @@
 use Rattle.std.proofs.Common.{◌≡◌, ◌∙◌, ℕ, None, false, refl, sym, ap}
 use Rattle.device_types.specs.{declared.kind.Kind.TheVariants.Cpu, Address.even}
 use Rattle.part_definitions.specs.{CpuRegister.pc_of, CpuState.{Boundary, cpu_after}, NextAccess.is_illegal}
-use Rattle.msp_exec.specs.Level.{level_begun}
-use Rattle.device_trace.specs.{Level.level_after, Progress.{Progress, Runs, last_registers}}
+use Rattle.msp_exec.specs.Course.{level_begun}
+use Rattle.device_trace.specs.Progress.{level_after, Progress, Runs, last_registers}
 use borrow.Author.Tests.{not-true}
 use Rattle.device_core.proofs.{CalmRegion.turn-access, CalmRuns.{fetch-open, fetched-legal, goes-calmly, opcode-fetched}, Levels.level-begun, Turns.{boundary-access, boundary-step, turn-within}}
 use Rattle.device_core.proofs.machine.Machine.try_calm_fetch.Goals as goal

@@ -1,6 +1,6 @@
 use Rattle.std.proofs.Common.{take}
 use Rattle.device_trace.specs.Peripherals.{Peripherals as PeripheralLogs, with_all_events}
-use Rattle.device_core.specs.Peripherals.{PeripheralsStandFor}
+use Rattle.device_core.specs.Bus.{PeripheralsStandFor}
 use Rattle.device_core.proofs.peripherals.Peripherals.take_events.Given as goal
 
 abbrev pub invariant-loop-event : goal.invariant-loop-event

@@ -1,6 +1,6 @@
 use Rattle.std.proofs.Common.{inl, ap, refl, subst, sym, arith}
 use Rattle.debug_session.specs.Place.{Run}
-use Rattle.debug_walk.specs.{Copies.TrackStandsFor, PlayedRun.played_run}
+use Rattle.debug_walk.specs.Copies.{TrackStandsFor, played_run}
 use Rattle.device_debug.proofs.debugger.Debugger.new.Goals as goal
 
 pub returns : goal.returns

@@ -1,5 +1,5 @@
 use Rattle.std.proofs.Common.{ap, refl}
-use Rattle.debug_walk.specs.PlayedRun.{played_run}
+use Rattle.debug_walk.specs.Copies.{played_run}
 use Rattle.device_debug.proofs.run_debugger.RunDebugger.new.Goals as goal
 
 pub returns : goal.returns

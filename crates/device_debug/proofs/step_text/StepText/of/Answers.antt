@@ -1,5 +1,5 @@
 use Rattle.std.proofs.Common.{ap}
-use Rattle.device_debug.specs.GrownText.{GrownText}
+use Rattle.device_debug.specs.Telling.{GrownText}
 use Rattle.device_debug.proofs.GrownTexts.{grown-all}
 use Rattle.device_debug.proofs.step_text.StepText.of.Goals as goal
 

@@ -2,7 +2,7 @@ use Rattle.std.proofs.Common.{◌∙◌, List, ap, arith, subst}
 use Rattle.std.proofs.lemmas.List.{take_all}
 use Rattle.debug_link.specs.Writing.{HasPut, PutsPackets}
 use Rattle.debug_link.proofs.{Bodies.put_none, Faults.counts_unwritten}
-use Rattle.device_debug.specs.{GrownText.GrownText, Telling.bodies_of}
+use Rattle.device_debug.specs.Telling.{GrownText, bodies_of}
 use Rattle.device_debug.proofs.{AnswerCounts.counts-done, ToldTexts.{texts-failed, texts-next}}
 use Rattle.device_debug.proofs.waiting_lines.WaitingLines.tell.Goals as goal
 

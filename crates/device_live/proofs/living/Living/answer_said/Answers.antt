@@ -1,4 +1,4 @@
-use Rattle.play_script.specs.Happening.{events_in}
+use Rattle.play_script.specs.Script.{events_in}
 use Rattle.device_live.specs.Answer.{memory_line, registers_line}
 use Rattle.device_live.proofs.Answered.{happens-refused, happens-taken, says-cut}
 use Rattle.device_live.proofs.living.Living.answer_said.Goals as goal

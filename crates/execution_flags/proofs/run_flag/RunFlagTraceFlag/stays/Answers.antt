@@ -1,6 +1,6 @@
 use Rattle.std.proofs.Common.{◌≡◌, ◌==◌, ◌∙◌, true, false, ap, sym}
 use Rattle.std.proofs.lemmas.Bool.{not-true}
-use Rattle.device_types.specs.{SeenRecord.SeenRecord, ExecFlag.last_pc}
+use Rattle.device_types.specs.ExecFlag.{SeenRecord, last_pc}
 use Rattle.execution_flags.proofs.UnclearedRun.{flag-elsewhere, flag-spared}
 use Rattle.execution_flags.proofs.run_flag.RunFlagTraceFlag.stays.Goals as goal
 

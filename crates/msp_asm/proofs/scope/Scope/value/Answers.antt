@@ -3,7 +3,7 @@ use Rattle.std.proofs.lemmas.Int.{ints, to_z-of_z}
 use mir.Syntax.{w64, w128}
 use mir.Val.{SFits, to_z, of_z}
 use Rattle.asm_text.specs.Expr.{SignedTerm}
-use Rattle.msp_asm.specs.{Scope.scope_in, Value.{term_value, with_sign}}
+use Rattle.msp_asm.specs.Value.{scope_in, term_value, with_sign}
 use Rattle.msp_asm.proofs.ValueSum.{sum_step}
 use Rattle.msp_asm.proofs.scope.Scope.value.Goals as goal
 

@@ -1,7 +1,7 @@
 use Rattle.std.proofs.Common.{◌≡◌, ◌⊎◌, ℕ, List, Option, Some, None, inl, inr, arith}
-use Rattle.outside_edge.specs.Count.{Rose}
-use Rattle.input_files.specs.{Argument.texts, Reading.Files, declared.status.Status.{Status, TheVariants.{ReadFault, WriteFault}}}
-use Rattle.device_cli.specs.{Command.row_of, Row.Row, Run.IsRun}
+use Rattle.outside_edge.specs.Calls.{Rose}
+use Rattle.input_files.specs.{CommandLine.texts, Reading.Files, declared.status.Status.{Status, TheVariants.{ReadFault, WriteFault}}}
+use Rattle.device_cli.specs.{Command.row_of, Row.Row, Answer.IsRun}
 use Rattle.program_tests.proofs.device.failing_edge.over_those_that_never_fail_no_fault_is_answered.Goals as goal
 
 -- where no fault was counted, none is answered

@@ -1,5 +1,5 @@
 use Rattle.std.proofs.Common.{subst}
-use Rattle.swatt_rom.specs.State.{StateStandsFor}
+use Rattle.swatt_rom.specs.Rom.{StateStandsFor}
 use Rattle.swatt_rom.proofs.Returns.{pc-returns}
 use Rattle.swatt_rom.proofs.state.State.pc.Goals as goal
 

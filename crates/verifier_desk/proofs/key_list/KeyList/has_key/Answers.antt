@@ -1,5 +1,5 @@
 use Rattle.std.proofs.Common.{◌∙◌, arith, ap, sym}
-use Rattle.verifier_desk.specs.{DeviceKey.has_key, Places.place_in}
+use Rattle.verifier_desk.specs.DeviceKey.{has_key, place_in}
 use Rattle.std.specs.Str.{bytes_eq}
 use Rattle.verifier_desk.proofs.PlacedWords.{keyed_there, missed, missed_behind, unkeyed}
 use Rattle.verifier_desk.proofs.key_list.KeyList.has_key.Goals as goal
