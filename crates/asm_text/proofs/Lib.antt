@@ -1,5 +1,4 @@
 pub mod Behind
-pub mod MapError
 pub mod Cuts
 pub mod TokenSteps
 pub mod TermSteps

@@ -1,13 +1,19 @@
 -- The tokens of a line, one after another.
-use Rattle.std.proofs.Common.{◌≡◌, ◌∙◌, ap, sym, refl, subst, ℕ, zero, suc, ◌+◌, ◌-◌, ◌<◌, ◌≤◌, arith, List, [], ◌∷◌, ◌++◌, append_assoc, append-nil, length, take, length-drop, drop, IfOk, MatchResult, drop-cons, add-one, Result, Ok, Err}
-use Rattle.std.proofs.Math.ListN.{drop_of_length-le}
-use Rattle.std.proofs.lemmas.List.{drop-drop, take_rest}
-use Rattle.std.specs.Result.{is_ok}
-use Rattle.std.specs.declared.alloc.AllocError.{AllocError}
-use Rattle.text_scan.specs.{declared.{fault_kind.FaultKind.{FaultKind, TheVariants.Syntax}, word_fault.WordFault.WordFault}}
+use Rattle.std.proofs.{Common.{◌≡◌, ◌∙◌, ap, sym, refl, subst, ℕ, zero, suc, ◌+◌, ◌-◌, ◌<◌, ◌≤◌, arith, List, [], ◌∷◌, ◌++◌, append_assoc, append-nil, length, take, length-drop, drop, IfOk, MatchResult, drop-cons, add-one, Result, Ok, Err}, Math.ListN.drop_of_length-le, lemmas.{List.{drop-drop, take_rest}, Bool.false≢true}}
+use Rattle.std.specs.{Result.is_ok, declared.alloc.AllocError.AllocError}
+use Rattle.text_scan.specs.declared.{fault_kind.FaultKind.{FaultKind, TheVariants.Syntax}, word_fault.WordFault.WordFault}
 use Rattle.asm_text.specs.{declared.{piece.Piece.Piece, token.Token.Token}, Token.{piece_of, IsWithin, token_before, with_later, tokens_behind}}
+use Rattle.asm_text.proofs.Behind.{behind}
 use Rattle.asm_text.specs.declared.piece.Piece.TheVariants as pieces
-use Rattle.asm_text.proofs.{MapError.ok_of_map_err, Behind.behind}
+
+-- What a call answered, where its refusal was passed on as another.
+
+-- `map_err` gave a value, so there was that value
+pub ok_of_map_err : {T E D : Type 0} (P : E → Type 0) (r : Result T E) (s : Result T D) (x : T)
+    → MatchResult r (λ y. s ≡ Ok y) P → is_ok s ≡ is_ok r → s ≡ Ok x → r ≡ Ok x
+ok_of_map_err P (Ok y) s x cases variant is =
+    let same : y ≡ x = cc (cases, is) in ap (λ v. Ok v) same
+ok_of_map_err P (Err e) s x cases variant is = absurd (false≢true (sym variant ∙ ap is_ok is))
 
 -- characters that are passed
 tokens_behind-passed : (count : ℕ) (line : List ℕ)

@@ -1,4 +1,2 @@
 pub mod DebugRun
 pub mod ServedSession
-pub mod SessionAnswer
-pub mod NoFault

@@ -1,17 +1,20 @@
 -- What is answered once a source was served.
-use Rattle.std.proofs.Common.{◌≡◌, ◌<◌, ◌⊎◌, ℕ, List, length, Option, Some, refl, inl, inr, arith}
-use Rattle.outside_edge.specs.Calls.{Rose}
-use Rattle.outside_edge.specs.declared.sink.Sink as sink
-use Rattle.outside_edge.specs.declared.source.Source as source
+use Rattle.std.proofs.Common.{◌≡◌, ◌<◌, ◌⊎◌, ℕ, List, length, Option, Some, refl, inl, inr, arith, ◌≤◌, Ok, Err, None, ⊎_elim}
+use Rattle.outside_edge.specs.{Calls.Rose, Shelf.KeepsFiles}
 use Rattle.source_server.specs.{declared.{halt.Halt.Halt, served.Served.Served}, Serving.{Ports, Serves, served_of}, Responder.Promise, Taken.{KeepsLimit, most_input}}
-use Rattle.source_server.specs.declared.halt.Halt.TheVariants as halt
-use Rattle.source_server.specs.declared.served.Served.TheVariants as served
 use Rattle.source_server.proofs.ServedEnds.{keeps_limit, unwritten, whole_or_stopped}
 use Rattle.debug_link.specs.declared.talk_end.TalkEnd.{TalkEnd}
-use Rattle.debug_link.specs.declared.talk_end.TalkEnd.TheVariants as talk
 use Rattle.device_live.specs.Conversation.{life_promise}
-use Rattle.input_files.specs.{declared.status.Status.{Status, TheVariants.{Done, Words, Memory, Spent, ReadFault, WriteFault}}}
-use Rattle.debug_cli.specs.{Session.{Debugs, EndsWith, HasServed, Lives, Session, debug_promise}, Status.{status_of, talk_status}}
+use Rattle.input_files.specs.{declared.{status.Status.{Status, TheVariants.{Done, Words, Memory, Spent, ReadFault, WriteFault}}, refusal.Refusal.Refusal}, Reading.{Reaches, Reads, Files, IsRefusal}, Row.{RowOf, Ends}, Status.status_of_refusal}
+use Rattle.debug_cli.specs.{Session.{Debugs, EndsWith, HasServed, Lives, Session, debug_promise, run_with, start_with, IsSessionAnswer}, Status.{status_of, talk_status}}
+use Rattle.play_script.specs.Script.{TimedEvent}
+use Rattle.input_files.proofs.Complete.{refused-complete, told-complete, refused-spent, refused-words}
+use Rattle.outside_edge.specs.declared.sink.Sink as sink
+use Rattle.outside_edge.specs.declared.source.Source as source
+use Rattle.source_server.specs.declared.halt.Halt.TheVariants as halt
+use Rattle.source_server.specs.declared.served.Served.TheVariants as served
+use Rattle.debug_link.specs.declared.talk_end.TalkEnd.TheVariants as talk
+use Rattle.outside_edge.specs.declared.shelf.Shelf as shelves
 
 abbrev pub IsFault : Status → Type 0
 IsFault status = (status ≡ ReadFault) ⊎ (status ≡ WriteFault)
@@ -57,13 +60,13 @@ module _ {Own : Type 0} (own_status : Own → Status) (ends : (own : Own) → Is
         (old new : Ports R W)
         (rose : (before last : List ℕ) → promise.stopped new.sink before last halt.Write
         → Rose (w.faults old.sink) (w.faults new.sink)) where
-      abbrev Ends : Status → Type 0
-      Ends status = EndsWith r promise (status_of own_status) old new status
+      abbrev EndsSo : Status → Type 0
+      EndsSo status = EndsWith r promise (status_of own_status) old new status
 
-      ends-words : (status : Status) → Ends status → status ≡ Words → ⊥
+      ends-words : (status : Status) → EndsSo status → status ≡ Words → ⊥
       ends-words status so is = ended-words so.ended (rw so.answer at is)
 
-      ends-limit : (status : Status) → Ends status
+      ends-limit : (status : Status) → EndsSo status
           → KeepsLimit r old.source new.source (status ≡ Spent)
       ends-limit status so =
           keeps_limit r promise old.source new.source new.sink so.ended so.serves
@@ -76,7 +79,7 @@ module _ {Own : Type 0} (own_status : Own → Status) (ends : (own : Own) → Is
       stopped-end before last halt.Write so no_sink = absurd (no_sink (rose before last so))
       stopped-end before last (halt.Own own) so no_sink = ends own
 
-      ends-whole : (status : Status) (bytes : List ℕ) → Ends status
+      ends-whole : (status : Status) (bytes : List ℕ) → EndsSo status
           → r.left old.source ≡ Some bytes → length bytes < most_input
           → ¬ Rose (r.faults old.source) (r.faults new.source)
           → ¬ Rose (w.faults old.sink) (w.faults new.sink)
@@ -104,7 +107,7 @@ module _ {Own : Type 0} (own_status : Own → Status) (ends : (own : Own) → Is
           no-fault (λ is. cc is) (λ is. cc is) fault
       ended-fault (served.Own own) so no_source no_sink fault = end-fault (ends own) fault
 
-      ends-fault : (status : Status) → Ends status
+      ends-fault : (status : Status) → EndsSo status
           → ¬ Rose (r.faults old.source) (r.faults new.source)
           → ¬ Rose (w.faults old.sink) (w.faults new.sink)
           → IsFault status → ⊥
@@ -167,3 +170,95 @@ module _ {R W : Type 0} (r : source.Ghosts R) (w : sink.Ghosts W) (left : Option
   served-fault (Lives start) (inl has) =
       ends-fault (λ error. Memory) (λ error. inr refl) r w (life_promise w start old.sink) old new
       (λ before last so. so.1) status has
+
+-- Answers: after a refusal of the files, and after their session served its source.
+
+-- the ends of the rows, once their files have values
+abbrev pub debug_end : List ℕ × ((ℕ → Option ℕ) × List TimedEvent) → RowOf Session
+debug_end values = Ends (Ok (Debugs (run_with values.0 values.1.0 values.1.1)))
+
+abbrev pub live_end : List ℕ × (ℕ → Option ℕ) → RowOf Session
+live_end values = Ends (Ok (Lives (start_with values.0 values.1)))
+
+module _ {S R W : Type 0} (s : shelves.Ghosts S) (r : source.Ghosts R) (w : sink.Ghosts W)
+    (shelf shelf_after : S) (left : Option ℕ) where
+  pub refused-answer : {V : Type 0} (ports : Ports R W) (row : RowOf Session)
+      (rest : V → RowOf Session) (refusal : Refusal)
+      → Reads s.files s.faults s.misses shelf shelf_after row rest (Err refusal)
+      → IsSessionAnswer s r w shelf shelf_after left ports ports (Some row)
+      (status_of_refusal refusal)
+  refused-answer ports row rest refusal reads =
+      let no_words = λ (is : status_of_refusal refusal ≡ Words).
+      refused-words (s.files shelf) _ _ row (rw is at reads.refusal) in
+      record {
+        words = (λ is. absurd (no_words is), λ none. absurd (cc none));
+        unread = λ is. absurd (no_words is);
+        answers = inl (record { cause = reads.refusal; order = reads.order }, refl);
+        complete = refused-complete (s.files shelf) (r.left ports.source) _ _ row _ _
+            _ reads.order reads.refusal (λ is no_source no_sink. inr is);
+        limit = record {
+          few = omega arith;
+          spent = λ is. absurd (refused-spent refusal is);
+        };
+        kept = reads.kept;
+        source_counted = omega arith;
+        sink_counted = omega arith;
+      }
+
+  pub served-answer : (old new : Ports R W) (row : RowOf Session) (session : Session)
+      (status : Status)
+      → Reaches (s.files shelf) row (Ok session)
+      → KeepsFiles s.files s.faults s.misses shelf shelf_after
+      → HasServed r w left session old new status
+      → r.faults old.source ≤ r.faults new.source
+      → w.faults old.sink ≤ w.faults new.sink
+      → IsSessionAnswer s r w shelf shelf_after left old new (Some row) status
+  served-answer old new row session status reaches keeps has source_counts sink_counts =
+      let no_words = served-words r w left old new status session has in
+      record {
+        words = (λ is. absurd (no_words is), λ none. absurd (cc none));
+        unread = λ is. absurd (no_words is);
+        answers = inr (session, reaches, has);
+        complete = told-complete (s.files shelf) (r.left old.source) _ row _ _
+            (λ bytes is few no_source no_sink.
+            served-whole r w left old new status session bytes has is few no_source no_sink);
+        limit = served-limit r w left old new status session has;
+        kept = keeps;
+        source_counted = source_counts;
+        sink_counted = sink_counts;
+      }
+
+-- Where no part of the outside failed, no fault is answered.
+
+words-fault : (status : Status) → status ≡ Words → IsFault status → ⊥
+words-fault status is fault = no-fault (λ read. cc (is, read)) (λ write. cc (is, write)) fault
+
+-- files that were refused
+refused-fault : {Outcome : Type 0} (files : Files) (missed failed : Type 0)
+    (row : RowOf Outcome) (status : Status) → IsRefusal files missed failed row status
+    → ¬ failed → IsFault status → ⊥
+refused-fault files missed failed row status (inl (is, miss)) no_read fault =
+    no-fault (λ read. cc (is, read)) (λ write. cc (is, write)) fault
+refused-fault files missed failed row status (inr (inl fails)) no_read fault = no_read fails.1
+refused-fault files missed failed row status (inr (inr (inl is))) no_read fault =
+    no-fault (λ read. cc (is, read)) (λ write. cc (is, write)) fault
+refused-fault files missed failed row status (inr (inr (inr (bad, is, reaches)))) no_read fault =
+    no-fault (λ read. cc (is, read)) (λ write. cc (is, write)) fault
+
+pub no-fault-of_run : {S R W : Type 0} (s : shelves.Ghosts S) (r : source.Ghosts R)
+    (w : sink.Ghosts W) (shelf shelf_after : S) (left : Option ℕ) (old new : Ports R W)
+    (command : Option (RowOf Session)) (status : Status)
+    → IsSessionAnswer s r w shelf shelf_after left old new command status
+    → ¬ Rose (s.faults shelf) (s.faults shelf_after)
+    → ¬ Rose (r.faults old.source) (r.faults new.source)
+    → ¬ Rose (w.faults old.sink) (w.faults new.sink)
+    → IsFault status → ⊥
+no-fault-of_run s r w shelf shelf_after left old new None status answer no_read no_source no_sink
+    fault =
+    words-fault status (answer.words.1 refl) fault
+no-fault-of_run s r w shelf shelf_after left old new (Some row) status answer no_read no_source
+    no_sink fault =
+    ⊎_elim
+    (λ refused. refused-fault (s.files shelf) _ _ row status refused.0.cause no_read fault)
+    (λ came. served-fault r w left old new status came.0 came.2 no_source no_sink fault)
+    answer.answers

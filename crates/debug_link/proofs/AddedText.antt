@@ -1,12 +1,152 @@
 -- Text that is added behind a rest of text, one piece after the other.
-use Rattle.std.proofs.Common.{◌≡◌, ◌≤◌, ◌<◌, ◌+◌, ◌∙◌, ◌++◌, ℕ, List, [], ◌∷◌, Result, Ok, Err, IsErr, refl, ap, sym, subst, append_assoc, length, take, arith}
-use Rattle.std.specs.Prelude.{slice_index}
-use Rattle.std.proofs.lemmas.Bool.{false≢true}
-use Rattle.std.proofs.lemmas.List.{append-nil, take_more}
-use Rattle.outside_edge.specs.Sink.{TakesPrefix}
+use Rattle.std.proofs.{Common.{◌≡◌, ◌≤◌, ◌<◌, ◌+◌, ◌∙◌, ◌++◌, ℕ, List, [], ◌∷◌, Result, Ok, Err, IsErr, refl, ap, sym, subst, append_assoc, length, take, arith, ◌-◌, zero, suc, drop}, lemmas.{Bool.false≢true, List.{append-nil, take_more, drop_all, length-drop, take_all}}, Math.Seq.{drop-append_seam, take-append_seam}}
+use Rattle.std.specs.Prelude.{slice_index, slice_set}
+use Rattle.outside_edge.specs.Sink.{TakesPrefix, Puts}
+use Rattle.debug_link.specs.{Console.{AddsText, HasAdded, MOST_TEXT, console, text_body, console_bodies}, Packet.{packets_of, packet_of}, Writing.{HasPut, PacketSink, PutsPackets}, Conversation.last_packet}
+use Rattle.outside_edge.proofs.SinkLemmas.{prefix_after, prefix_of_more, takes_both}
 use Rattle.outside_edge.specs.declared.sink.Sink as sink
-use Rattle.debug_link.specs.{Console.{AddsText, HasAdded, MOST_TEXT, console, text_body}, Packet.packets_of, Writing.{HasPut, PacketSink, PutsPackets}}
-use Rattle.debug_link.proofs.{Bodies.{put_both, put_none, puts_behind, puts_failed, puts_less}, ConsolePieces.{pieces-full, pieces-one}}
+use borrow.Rule.Slice.PartMut.{put_mid}
+
+-- Packets that are put one after the other.
+
+one_packet : (body : List ℕ) → packets_of (body ∷ []) ≡ packet_of body
+unfolding packets_of
+one_packet body = append-nil (packet_of body)
+
+pub packets-both : (xs ys : List (List ℕ))
+    → packets_of (xs ++ ys) ≡ packets_of xs ++ packets_of ys
+unfolding packets_of
+packets-both [] ys = refl
+packets-both (body ∷ xs) ys =
+    ap (λ (rest : List ℕ). packet_of body ++ rest) (packets-both xs ys)
+    ∙ sym (append_assoc (packet_of body) (packets_of xs) (packets_of ys))
+
+last-both : (before : List ℕ) (xs ys : List (List ℕ))
+    → last_packet before (xs ++ ys) ≡ last_packet (last_packet before xs) ys
+last-both before [] ys = refl
+last-both before (body ∷ xs) ys = last-both (packet_of body) xs ys
+
+module _ {W : Type 0} (w : sink.Ghosts W) where
+  pub put_one : {V E : Type 0} (old new : PacketSink W) (body : List ℕ) (result : Result V E)
+      → Puts w.stands old.sink new.sink (packet_of body) result → new.last ≡ packet_of body
+      → PutsPackets w old new (body ∷ []) result
+  put_one old new body (Ok value) puts last =
+      record { all = record { takes = rw (one_packet body) puts.all; last = last }; prefix = tt }
+  put_one old new body (Err error) puts last =
+      record { all = tt; prefix = rw (one_packet body) puts.prefix }
+
+  -- no packet at all
+  pub put_none : (now : PacketSink W) → HasPut w now now []
+  unfolding packets_of
+  put_none now = record { takes = λ before holds. rw (append-nil before) holds; last = refl }
+
+  pub put_both : (old mid new : PacketSink W) (xs ys : List (List ℕ))
+      → HasPut w old mid xs → HasPut w mid new ys → HasPut w old new (xs ++ ys)
+  put_both old mid new xs ys first second =
+      record {
+        takes = rw (packets-both xs ys)
+            (takes_both w.stands old.sink mid.sink new.sink (packets_of xs) (packets_of ys)
+            first.takes second.takes);
+        last = second.last ∙ ap (λ (one : List ℕ). last_packet one ys) first.last
+            ∙ sym (last-both old.last xs ys);
+      }
+
+  -- what is put behind packets that were put
+  pub puts_behind : {V E : Type 0} (old mid new : PacketSink W) (xs ys : List (List ℕ))
+      (result : Result V E)
+      → HasPut w old mid xs → PutsPackets w mid new ys result
+      → PutsPackets w old new (xs ++ ys) result
+  puts_behind old mid new xs ys (Ok value) first second =
+      record { all = put_both old mid new xs ys first second.all; prefix = tt }
+  puts_behind old mid new xs ys (Err error) first second =
+      record {
+        all = tt;
+        prefix = rw (packets-both xs ys)
+            (prefix_after w.stands old.sink mid.sink new.sink (packets_of xs) (packets_of ys)
+            first.takes second.prefix);
+      }
+
+  -- a call that failed before the last of its packets
+  pub puts_less : {V E : Type 0} (old new : PacketSink W) (xs ys : List (List ℕ)) (error : E)
+      → PutsPackets {V = V} w old new xs (Err error)
+      → PutsPackets {V = V} w old new (xs ++ ys) (Err error)
+  puts_less old new xs ys error puts =
+      record {
+        all = tt;
+        prefix = rw (packets-both xs ys)
+            (prefix_of_more w.stands old.sink new.sink (packets_of xs) (packets_of ys) puts.prefix);
+      }
+
+  -- a call that failed where another one did
+  pub puts_failed : {V E : Type 0} (old new : PacketSink W) (bodies : List (List ℕ))
+      (result : Result V E)
+      → IsErr result → TakesPrefix w.stands old.sink new.sink (packets_of bodies)
+      → PutsPackets w old new bodies result
+  puts_failed old new bodies (Ok value) is prefix = absurd (false≢true is)
+  puts_failed old new bodies (Err error) is prefix = record { all = tt; prefix = prefix }
+
+-- Text that is cut into pieces for the console.
+
+-- how many pieces are allowed is no matter, where there is one for each byte
+pub pieces-same : (one other : ℕ) (text : List ℕ) → length text ≤ one → length text ≤ other
+    → console_bodies one text ≡ console_bodies other text
+pieces-same zero zero [] few more = refl
+pieces-same zero (suc other) [] few more = refl
+pieces-same (suc one) zero [] few more = refl
+pieces-same (suc one) (suc other) [] few more = refl
+pieces-same zero other (byte ∷ text) few more = absurd (omega (arith, few))
+pieces-same (suc one) zero (byte ∷ text) few more = absurd (omega (arith, more))
+pieces-same (suc one) (suc other) (byte ∷ text) few more =
+    let size = length-drop MOST_TEXT (byte ∷ text) in
+    ap (λ (rest : List (List ℕ)). text_body (take MOST_TEXT (byte ∷ text)) ∷ rest)
+    (pieces-same one other (drop MOST_TEXT (byte ∷ text)) (omega (arith, few, size))
+    (omega (arith, more, size)))
+
+-- the first piece, and those of the rest
+pub pieces-next : (byte : ℕ) (text : List ℕ)
+    → console (byte ∷ text)
+    ≡ text_body (take MOST_TEXT (byte ∷ text)) ∷ console (drop MOST_TEXT (byte ∷ text))
+pieces-next byte text =
+    let size = length-drop MOST_TEXT (byte ∷ text) in
+    ap (λ (rest : List (List ℕ)). text_body (take MOST_TEXT (byte ∷ text)) ∷ rest)
+    (pieces-same (length text) (length (drop MOST_TEXT (byte ∷ text)))
+    (drop MOST_TEXT (byte ∷ text)) (omega (arith, size)) (omega arith))
+
+-- a piece that is full, and what comes behind it
+pub pieces-full : (piece more : List ℕ) → length piece ≡ MOST_TEXT
+    → console (piece ++ more) ≡ text_body piece ∷ console more
+pieces-full [] more full = absurd (omega (arith, full))
+pieces-full (byte ∷ rest) more full =
+    let piece : List ℕ = byte ∷ rest in
+    let front : take MOST_TEXT (piece ++ more) ≡ piece =
+    subst (λ (n : ℕ). take n (piece ++ more) ≡ piece) full (take-append_seam piece more) in
+    let behind : drop MOST_TEXT (piece ++ more) ≡ more =
+    subst (λ (n : ℕ). drop n (piece ++ more) ≡ more) full (drop-append_seam piece more) in
+    pieces-next byte (rest ++ more)
+    ∙ ap (λ (one : List ℕ). text_body one ∷ console (drop MOST_TEXT (piece ++ more))) front
+    ∙ ap (λ (later : List ℕ). text_body piece ∷ console later) behind
+
+-- a text that is one piece
+pub pieces-one : (piece : List ℕ) → 0 < length piece → length piece ≤ MOST_TEXT
+    → console piece ≡ text_body piece ∷ []
+pieces-one [] some few = absurd (omega (arith, some))
+pieces-one (byte ∷ rest) some few =
+    let piece : List ℕ = byte ∷ rest in
+    pieces-next byte rest
+    ∙ ap (λ (one : List ℕ). text_body one ∷ console (drop MOST_TEXT piece))
+    (take_all MOST_TEXT piece few)
+    ∙ ap (λ (later : List ℕ). text_body piece ∷ console later) (drop_all MOST_TEXT piece few)
+
+-- what is written behind a first byte
+pub written-behind : (old digits : List ℕ) (first : ℕ) → 0 < length old
+    → put_mid 1 (length (slice_set old 0 first) - 1) (slice_set old 0 first) digits
+    ≡ first ∷ digits
+written-behind [] digits first some = absurd (omega (arith, some))
+written-behind (byte ∷ rest) digits first some =
+    let none : drop (length (first ∷ rest) - 1) rest ≡ [] =
+    drop_all (length (first ∷ rest) - 1) rest (omega arith) in
+    ap (λ (later : List ℕ). first ∷ (digits ++ later)) none
+    ∙ ap (λ (later : List ℕ). first ∷ later) (append-nil digits)
 
 regrouped : (rest one two more : List ℕ)
     → rest ++ (one ++ two) ++ more ≡ (rest ++ one) ++ (two ++ more)

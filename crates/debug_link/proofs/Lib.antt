@@ -1,6 +1,4 @@
 pub mod AddedText
-pub mod Bodies
-pub mod ConsolePieces
 pub mod Faults
 pub mod Parties
 pub mod PacketPieces

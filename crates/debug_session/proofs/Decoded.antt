@@ -1,10 +1,9 @@
 -- What is read where digits are decoded into room of the right size.
-use Rattle.std.proofs.Common.{◌≡◌, ◌∙◌, refl, ℕ, ◌/◌, List, length, ap, sym, eq-eqb, Option, Some, None, Result, Ok, Err}
-use Rattle.std.specs.Prelude.{MatchResult}
-use Rattle.hex.specs.Hex.{decode_of, decode_sized}
-use Rattle.hex.specs.declared.error.FromHexError.{FromHexError}
+use Rattle.std.proofs.{Common.{◌≡◌, ◌∙◌, refl, ℕ, ◌/◌, List, length, ap, sym, eq-eqb, Option, Some, None, Result, Ok, Err, ◌+◌, ◌*◌, ◌^◌, ◌<◌, ◌≤◌, arith, take, get_or, true}, Math.Nat.{pow-le-pow_right, pow-suc}, lemmas.{Bool.and_parts, List.Sums.AllPass-from_list_all, Int.Digits.digits_value_more}}
+use Rattle.std.specs.{Prelude.{MatchResult, nat_lt}, Char.{digit_value, is_digit}, Str.Parse.digits_value}
+use Rattle.hex.specs.{Hex.{decode_of, decode_sized}, declared.error.FromHexError.FromHexError}
 use Rattle.text_scan.specs.Word.{words_of}
-use Rattle.debug_session.specs.{Request.{request_in, request_of, request_where}, declared.request.Request.Request}
+use Rattle.debug_session.specs.{Request.{request_in, request_of, request_where}, declared.request.Request.Request, Number.{are_hex_digits, is_hex_word}}
 
 pub decoded : (digits : List ℕ) (count : ℕ) → count ≡ length digits / 2
     → decode_sized digits count ≡ decode_of digits
@@ -29,3 +28,33 @@ pub read : (digits new : List ℕ) (count : ℕ) (r : Result Unit FromHexError)
 read digits new count r answer writes is same =
     by_cases new r (decode_sized digits count) answer writes is
     ∙ ap request_where (decoded digits count same)
+
+-- Lemmas on numbers of a few hexadecimal digits.
+
+-- one digit more
+pub one_more : (value digit count : ℕ) → value < 16 ^ count → digit ≤ 15
+    → value * 16 + digit < 16 ^ (count + 1)
+one_more value digit count h small = grind (arith, pow-suc 16 count)
+
+-- eight digits fit 32 bits
+pub fits : (value digit count : ℕ) → value < 16 ^ count → digit ≤ 15 → count < 8
+    → value * 16 + digit < 2 ^ 32
+fits value digit count h small few =
+    let below : count + 1 ≤ 8 = omega (arith, few) in
+    let room : 16 ^ (count + 1) ≤ 16 ^ 8 = pow-le-pow_right {n = 16} (omega arith) below in
+    let more = one_more value digit count h small in
+    omega (arith, room, more)
+
+-- a byte of a word is a digit
+pub digit_at : (word : List ℕ) (i : ℕ) → is_hex_word word ≡ true → i < length word
+    → is_digit (get_or word i 0) 16 ≡ true
+digit_at word i h below =
+    let all = (and_parts (nat_lt 0 (length word)) (are_hex_digits word) h).1 in
+    AllPass-from_list_all (λ byte. is_digit byte 16) word all i 0 below
+
+-- the value of one digit more
+pub value_more : (word : List ℕ) (i value digit : ℕ) → i < length word
+    → value ≡ digits_value 16 (take i word) → digit ≡ digit_value (get_or word i 0)
+    → value * 16 + digit ≡ digits_value 16 (take (i + 1) word)
+value_more word i value digit below answer is =
+    omega (arith, answer, is, digits_value_more 16 word i below)

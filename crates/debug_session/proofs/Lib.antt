@@ -1,7 +1,6 @@
 pub mod Hits
 pub mod Cuts
 pub mod Decoded
-pub mod HexDigits
 pub mod Between
 pub mod Scans
 pub mod Stretches

@@ -1,8 +1,13 @@
 -- The step at a place, and where it leads.
-use Rattle.std.proofs.Common.{◌≡◌, ℕ, suc, length, refl}
+use Rattle.std.proofs.{Common.{◌≡◌, ℕ, suc, length, refl, ◌<◌, ◌∙◌, true, None, ap}, lemmas.Bool.{cond-true, lt-ltb}}
 use Rattle.device_types.specs.declared.bus_record.BusRecord.{BusRecord}
-use Rattle.device_trace.specs.{Progress.{level_after, Held, access_of, kind_of, progress_within}, Logs.{Logs, progress_after, vector_of, with_events, with_record}, Signals.signals_at, Step.{access_recorded, next_record, record_of}, Trace.logs_after}
-use Rattle.debug_session.specs.Place.{Run, logs_at, step_at}
+use Rattle.device_trace.specs.{Progress.{level_after, Held, access_of, kind_of, progress_within}, Logs.{Logs, progress_after, vector_of, with_events, with_record}, Signals.signals_at, Step.{access_recorded, next_record, record_of}, Trace.{logs_after, trace}}
+use Rattle.debug_session.specs.{Place.{Run, logs_at, step_at, no_step, play_to, sight_at, step_sight}, Request.most_steps, Sight.StepSight}
+use Rattle.std.specs.Prelude.{nat_lt}
+use Rattle.device_core.specs.Silence.{is_silent}
+use Rattle.device_core.proofs.Idle.{silent-parts}
+use Rattle.device_play.proofs.GoesOn.{silent-lines}
+use Rattle.debug_walk.specs.Passing.{IsSilent}
 
 -- the logs after the events of its step
 abbrev pub heard_at : Run → ℕ → Logs
@@ -43,3 +48,31 @@ step-level run place = refl
 pub held-first : (run : Run) → (logs_at run 0).progress ≡ Held
 unfolding logs_at logs_after
 held-first run = refl
+
+-- Steps that nobody is told of.
+
+-- what is seen of the step at a place
+pub next-there : (run : Run) (place : ℕ) → place < most_steps
+    → (sight_at run place).next ≡ step_sight run place
+unfolding sight_at
+next-there run place before =
+    cond-true (nat_lt place most_steps) (step_sight run place) no_step
+    (lt-ltb place most_steps before)
+
+rule-silent : (run : Run) (place : ℕ)
+    → is_silent run.start (play_to run (suc place)) ≡ true
+    → (step_at run place).reset ≡ None
+unfolding trace step_at logs_at
+rule-silent run place silent = (silent-parts run.start (play_to run (suc place)) silent).1
+
+pub silent-there : (run : Run) (place : ℕ) → place < most_steps
+    → is_silent run.start (play_to run (suc place)) ≡ true
+    → IsSilent run place
+unfolding step_sight
+silent-there run place before silent =
+    let next = next-there run place before in
+    record {
+      unrefused = ap (λ (step : StepSight). step.refused) next ∙ rule-silent run place silent;
+      lines = ap (λ (step : StepSight). step.lines) next
+          ∙ silent-lines run.start (run.events_at place) (play_to run place) silent;
+    }

@@ -6,7 +6,7 @@ use Rattle.std.proofs.lemmas.Bool.Decides.{nat_tests}
 use Rattle.std.proofs.lemmas.List.{length_push}
 use Rattle.device_types.specs.TraceFlag.{Flag}
 use Rattle.hmac_core.specs.Hash.{Hash}
-use Rattle.trace_facts.proofs.Choices.{none_there}
+use Rattle.trace_facts.proofs.ExecFlag.{none_there}
 use Rattle.play_script.specs.declared.playback.Playback.{Playback}
 use Rattle.device_core.specs.{Device.{machine_of, steps_made}, Quiet.Question, declared.live.Live.Live}
 use Rattle.device_play.specs.Midway.{HasGoneOn}

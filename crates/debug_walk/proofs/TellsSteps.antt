@@ -1,14 +1,12 @@
 -- What tells why to stop, with one step more.
-use Rattle.std.proofs.Common.{◌≡◌, ◌<◌, ◌≤◌, ◌-◌, ◌∙◌, ◌⊎◌, ⊎_elim, inl, inr, ℕ, suc, Bool, true, false, List, [], ◌∷◌, ◌++◌, Option, None, Some, length, refl, ap, sym, subst, arith}
+use Rattle.std.proofs.{Common.{◌≡◌, ◌<◌, ◌≤◌, ◌-◌, ◌∙◌, ◌⊎◌, ⊎_elim, inl, inr, ℕ, suc, Bool, true, false, List, [], ◌∷◌, ◌++◌, Option, None, Some, length, refl, ap, sym, subst, arith, is_some}, lemmas.{Bool.{cases_Bool, false≢true, Decides.nat_tests}, List.length_push}}
 use Rattle.std.specs.{Option.option_or, Prelude.{◌==◌, ◌&&◌, ◌||◌}}
-use Rattle.std.proofs.lemmas.Bool.{cases_Bool, false≢true}
-use Rattle.std.proofs.lemmas.Bool.Decides.{nat_tests}
-use Rattle.std.proofs.lemmas.List.{length_push}
 use Rattle.device_types.specs.{Kind.is_boot, declared.{bus_record.BusRecord.BusRecord, kind.Kind.{Kind, TheVariants.Idle}, rule.Rule.Rule}}
 use Rattle.debug_session.specs.{Request.most_steps, declared.{command.Way.TheVariants.Ahead, seen_accesses.SeenAccesses.SeenAccesses, watch.{Hit.Hit, Watch.Watch}}, Cause.{behind, hit_on, hits, is_due}, Place.{Run, sight_at, step_at, step_sight, view_of}, Sight.{Sight, StepSight}, Stops.Stops, Watched.{first_hit, hits_of, last_hit}}
 use Rattle.debug_session.proofs.Views.{next-at, view-at}
-use Rattle.debug_walk.specs.{Stretch.{is_instruction, stretch_from, stretch_with}, Walk.{IsStretch, TellsCause, seen_at, stretch_past, stretch_there}, declared.stretch.Stretch.Stretch}
-use Rattle.debug_walk.proofs.{QuietPlaces.GoesBy, SilentSteps.next-there, StretchSteps.{KeepsBehind, behind-few, first-with, kept-all, kept_behind, keeps-all, keeps-none, stretch-step}}
+use Rattle.debug_walk.specs.{Stretch.{is_instruction, stretch_from, stretch_with}, Walk.{IsStretch, TellsCause, seen_at, stretch_past, stretch_there, stretch_behind}, declared.stretch.Stretch.Stretch}
+use Rattle.debug_walk.proofs.{QuietPlaces.GoesBy, Places.next-there, StretchSteps.{KeepsBehind, behind-few, first-with, kept-all, kept_behind, keeps-all, keeps-none, stretch-step}}
+use Rattle.device_core.specs.{Device.{HasStepped, machine_of}, declared.live.Live.Live}
 
 -- what tells it of the steps behind a place, where the next step is one of them
 pub record KeepsTelling (stops : Stops) (asleep : Bool) (run : Run) (place : ℕ) (stretch : Stretch)
@@ -188,3 +186,39 @@ module _ (stops : Stops) (asleep : Bool) (run : Run) (place : ℕ) (stretch : St
               (step-reset-seen run place before ∙ by.silent.unrefused) none (unbooted sleeps))
               (tells-past.exact sleeps);
         }
+
+-- What a walk keeps where it makes a step.
+
+-- the stretch to which the step at a place belongs keeps what lies behind
+module _ (watches : List Watch) (run : Run) (place : ℕ) (within : place ≤ most_steps)
+    (was : Stretch)
+  where
+    there-begun : (sight_at run place).boundary ≡ true
+        → KeepsBehind watches run place (stretch_there run place was)
+    there-begun here =
+        let view = view-at run place within in
+        rw (here, ← view) (keeps-none watches run place (rw view here))
+
+    there-kept : (sight_at run place).boundary ≡ false
+        → IsStretch watches run place was
+        → KeepsBehind watches run place (stretch_there run place was)
+    there-kept none is =
+        rw none (keeps-all watches run place was (rw (view-at run place within) none) is)
+
+    pub keeps-there : ((sight_at run place).boundary ≡ true) ⊎ IsStretch watches run place was
+        → KeepsBehind watches run place (stretch_there run place was)
+    keeps-there known =
+        ⊎_elim there-begun
+        (λ none. there-kept none
+        (⊎_elim (λ here. absurd (false≢true (sym none ∙ here))) (λ is. is) known))
+        (cases_Bool (sight_at run place).boundary)
+
+-- a row of one step, which is kept
+pub kept-one : {D G : Type 0} (watches : List Watch) (run : Run) (place : ℕ) (there : Stretch)
+    (live : Live D G)
+    → HasStepped live
+    → stretch_behind watches run place there place (is_some (machine_of live).bus.last)
+    ≡ stretch_past watches run place there
+kept-one watches run place there live kept =
+    let same : (place == place) ≡ true = grind (arith, nat_tests) in
+    rw (kept, same) refl

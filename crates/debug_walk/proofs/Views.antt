@@ -1,12 +1,14 @@
 -- What a device shows in the middle of a run is what the place has where it stands.
-use Rattle.std.proofs.Common.{◌≡◌, ℕ, suc, Bool, List, Some}
+use Rattle.std.proofs.Common.{◌≡◌, ℕ, suc, Bool, List, Some, Result, Ok, Err, inr}
 use Rattle.device_types.specs.{TraceFlag.Flag, declared.bus_record.BusRecord.BusRecord}
 use Rattle.hmac_core.specs.Hash.{Hash}
 use Rattle.device_trace.specs.{Logs.{Logs, aux_of, exec_of}, Progress.{last_registers, stands_at_boundary}, Start.Start, Trace.{last_record, logs_after, trace}}
 use Rattle.play_script.specs.declared.playback.Playback.{Playback}
 use Rattle.device_core.specs.{Device.{OfLive, steps_made}, declared.live.Live.Live}
 use Rattle.device_play.specs.Midway.{IsMidway}
-use Rattle.debug_session.specs.Place.{Run, aux_at, exec_at, logs_at, play_to, sight_at, step_at}
+use Rattle.debug_session.specs.{Place.{Run, aux_at, exec_at, logs_at, play_to, sight_at, step_at}, declared.watch.Watch.Watch}
+use Rattle.std.specs.Prelude.{IfOk}
+use Rattle.debug_walk.specs.{Copies.IsBegun, Walk.{IsStretch, Walks, place_of}, declared.walk.Walk.Walk}
 
 pub some-same : {A : Type 0} {one other : A} → Some one ≡ Some other → one ≡ other
 some-same same = cc (same)
@@ -67,3 +69,15 @@ module _ {D G : Type 0} {hash : Hash D} {flag : Flag G} {live : Live D G} {playb
       → OfLive hash flag live (λ start play. aux ≡ aux_of start (logs_after start play))
       → aux ≡ aux_at run (steps_made live)
   aux-at aux seen = at-place (λ start logs. aux ≡ aux_of start logs) seen
+
+-- A walk that begins at power-on.
+
+pub begun-anew : {D E : Type 0} (hash : Hash D) (played run : Run) (result : Result (Walk D) E)
+    → played ≡ run
+    → IfOk result (λ walk. Walks hash played walk)
+    → IfOk result (λ walk. place_of walk ≡ 0)
+    → ((watches : List Watch) → IfOk result (λ walk. IsStretch watches played 0 walk.stretch))
+    → IfOk result (IsBegun hash run)
+begun-anew hash played run (Ok walk) same walks place kept =
+    rw (← same) (record { walks = walks; fresh = inr (λ watches. rw place (kept watches)) })
+begun-anew hash played run (Err error) same walks place kept = tt

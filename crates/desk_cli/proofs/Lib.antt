@@ -1,11 +1,8 @@
 pub mod AdoptedLines
 pub mod DepartedAnswer
-pub mod DepartedLines
 pub mod DeskAnswer
 pub mod DeskComplete
-pub mod DeskInput
 pub mod FoundEntries
-pub mod FoundingAnswer
 pub mod MoveAnswer
 pub mod NoWords
 pub mod Noting
@@ -13,5 +10,4 @@ pub mod StateLines
 pub mod StateWords
 pub mod StatesBehind
 pub mod StatesGoOn
-pub mod StatesNoted
 pub mod StatesPut

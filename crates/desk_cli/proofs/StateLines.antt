@@ -1,22 +1,67 @@
 -- The lines of entries are read as these entries.
-use Rattle.std.proofs.Common.{◌≡◌, ◌∙◌, ℕ, ◌+◌, ◌<◌, ◌≤◌, ◌&&◌, Bool, true, false, List, [], ◌∷◌, ◌++◌, Option, Some, None, IfSome, Ok, Err, length, drop, append_assoc, append-nil, refl, ap, subst, sym, arith, rules}
-use Rattle.std.specs.Prelude.{◌==◌, ◌||◌, nat_le, nat_lt, IsUtf8}
-use Rattle.std.specs.Int.{is_in_range}
-use Rattle.std.specs.List.{list_all}
-use Rattle.std.specs.Str.Lines.{lines}
-use Rattle.std.proofs.lemmas.Bool.{and_from, and_parts, eqb-true, leb-true, le-leb, lt-ltb}
-use Rattle.std.proofs.lemmas.Str.{IsUtf8-nil, IsUtf8-append}
+use Rattle.std.proofs.{Common.{◌≡◌, ◌∙◌, ℕ, ◌+◌, ◌<◌, ◌≤◌, ◌&&◌, Bool, true, false, List, [], ◌∷◌, ◌++◌, Option, Some, None, IfSome, Ok, Err, length, drop, append_assoc, append-nil, refl, ap, subst, sym, arith, rules, suc, inl, inr}, lemmas.{Bool.{and_from, and_parts, eqb-true, leb-true, le-leb, lt-ltb, cases_Bool}, Str.{IsUtf8-nil, IsUtf8-append}}}
+use Rattle.std.specs.{Prelude.{◌==◌, ◌||◌, nat_le, nat_lt, IsUtf8}, Int.is_in_range, List.{list_all, All}, Str.Lines.lines}
 use Rattle.text_scan.specs.{LineFold.{lines_fold, text_fold, numbered_lines}, Word.{is_passed_over, says_nothing}, declared.fault_kind.FaultKind.TheVariants.Digit}
 use Rattle.named_value.specs.Names.{IsPlainWord, is_plain}
 use Rattle.printed_lines.specs.Line.{line_of, with_pieces}
 use Rattle.line_buffer.specs.LineLaw.{ArePieces, IsFirstLine}
 use Rattle.line_buffer.proofs.PieceLines.{first_line, utf8_line}
 use Rattle.text_scan.proofs.{PlainWords.plain-encoded, TextUtf8.utf8_of-whole}
-use Rattle.desk_memory.specs.{declared.answer.Answer.Answer, Entry.{Entry, first_home, last_in, with_entries, is_short, is_short_answer, is_short_line, is_short_number}}
-use Rattle.desk_database.proofs.AnswerWords.{answer-are, short-plain}
+use Rattle.desk_memory.specs.{declared.answer.Answer.Answer, Entry.{Entry, first_home, last_in, with_entries, is_short, is_short_answer, is_short_line, is_short_number, is_replaced, with_entry}}
+use Rattle.desk_database.proofs.TableRows.{answer-are, short-plain}
 use Rattle.verifier_desk.specs.DeviceKey.{is_name_character, name_fault}
 use Rattle.desk_cli.specs.{declared.line_form.LineForm.{LineForm, TheVariants.{VersionOne, Here, Gone}}, ReadBack.{AreNotable, IsWritable, StatesReadBack, VersionOneReadsBack}, StateFile.{entry_of, goes_behind, goes_on, is_in_range as ranged, states_of, with_line}, StateText.{desk_pieces, form_for, form_name, last_pieces, moves_pieces, number_piece, state_pieces, state_line, text_by, version_one_line}}
-use Rattle.desk_cli.proofs.{StatesBehind.stand_behind, StatesGoOn.go_on, StatesNoted.{AreWritable, Each, StandWritten, each-of, noted-all, stand-noted}, StateWords.{sizes, state-line-read, version-one-read}}
+use Rattle.desk_cli.proofs.{StatesBehind.{stand_behind, noted-behind}, StatesGoOn.{go_on, noted-goes-on}, StateWords.{sizes, state-line-read, version-one-read}}
+
+-- Entries as desks note them can be written, and each goes behind those before it and on from them.
+
+-- each entry is one of which this holds
+abbrev pub Each : (Entry → Type 0) → List Entry → Type 0
+Each holds [] = Unit {0}
+Each holds (entry ∷ entries) = holds entry × Each holds entries
+
+pub each-of : (holds : Entry → Type 0) (entries : List Entry) → All holds entries
+    → Each holds entries
+each-of holds [] all = tt
+each-of holds (entry ∷ entries) all = (
+  all 0 entry (omega arith),
+  each-of holds entries (λ k d below. all (suc k) d (omega (arith, below))),
+)
+
+noted-each : (holds : Entry → Type 0) (had : List Entry) (entry : Entry) → Each holds had
+    → holds entry → Each holds (with_entry had entry)
+noted-each holds [] entry each new = (new, tt)
+noted-each holds (first ∷ later) entry each new =
+    elim (cases_Bool (is_replaced first later entry)) [
+      | inl same ↦ rw same (new, each.1)
+      | inr other ↦ rw other (each.0, noted-each holds later entry each.1 new)
+    ]
+
+pub noted-all : (holds : Entry → Type 0) (had entries : List Entry) → Each holds had
+    → Each holds entries → Each holds (with_entries had entries)
+noted-all holds had [] each new = each
+noted-all holds had (entry ∷ entries) each new =
+    noted-all holds (with_entry had entry) entries (noted-each holds had entry each new.0) new.1
+
+abbrev pub AreWritable : List Entry → Type 0
+AreWritable entries = Each IsWritable entries
+
+pub record StandWritten (entries : List Entry) : Type 0 where
+  pub writable : AreWritable entries
+  pub behind : stand_behind [] entries ≡ true
+  pub order : go_on [] entries ≡ true
+
+pub stand-noted : (had entries : List Entry) → StandWritten had → AreNotable had entries
+    → StandWritten (with_entries had entries)
+stand-noted had [] stand notable = stand
+stand-noted had (entry ∷ entries) stand notable =
+    stand-noted (with_entry had entry) entries
+    (record {
+      writable = noted-each IsWritable had entry stand.writable notable.0;
+      behind = noted-behind had entry stand.behind notable.1;
+      order = noted-goes-on had entry stand.order notable.2;
+    })
+    notable.3
 
 -- the words are plain
 

@@ -11,7 +11,7 @@ use Rattle.named_value.specs.Names.{value_named}
 use Rattle.text_scan.proofs.{NamedWord.value_of-name, PlainWords.{decimal_of-decimal, hex_bytes_of-digits}}
 use Rattle.report_verifier.specs.Verdict.{verdict_name}
 use Rattle.desk_memory.specs.{declared.{answer.Answer.{Answer, TheVariants.{Stale, Bad, Spent, Requested, Judged}}, device_state.DeviceState.DeviceState}, AnswerReader.{answer_text, answer_words}, Entry.{Entry, first_home, is_short, is_short_answer, is_short_line, is_short_number, is_sized}}
-use Rattle.desk_database.proofs.AnswerWords.{answer-read, count-read, short}
+use Rattle.desk_database.proofs.TableRows.{answer-read, count-read, short}
 use Rattle.verifier_desk.specs.DeviceKey.{name_fault}
 use Rattle.desk_cli.specs.{declared.line_form.LineForm.{LineForm, TheVariants.VersionOne}, ReadBack.{IsWritable, is_made}, StateFile.{entry_of, home_said, last_of, last_with, moves_of, name_of, number_in, outstanding_of, state_of}, StateText.{desk_pieces, form_for, form_name, form_names, last_pieces, moves_pieces, number_piece, state_pieces}}
 

@@ -1,16 +1,12 @@
 -- From two files to what an `Unopened` over them shows.
-use Rattle.std.proofs.Common.{◌≡◌, ◌≤◌, ◌+◌, IsTrue, refl, sym, ap, ap₂, subst, ◌∙◌, inl, inr, arith}
-use Rattle.sqlite_disk.specs.declared.Disk.{Ghosts}
-use Rattle.sqlite_disk.specs.declared.Files.{Files}
-use Rattle.sqlite_wal.specs.Files.{seen_image, outcomes}
-use Rattle.sqlite_wal.specs.Reads.{are_clean, AreClean, OnlyReads}
-use Rattle.sqlite_wal.specs.Recovery.{Image}
+use Rattle.std.proofs.Common.{◌≡◌, ◌≤◌, ◌+◌, IsTrue, refl, sym, ap, ap₂, subst, ◌∙◌, inl, inr, arith, ℕ, Bool, cond, List, [], ◌∷◌}
+use Rattle.sqlite_disk.specs.{declared.{Disk.Ghosts, Files.Files}, Events.{Event, replay, settled}, History.MayLeave}
+use Rattle.sqlite_wal.specs.{Files.{seen_image, outcomes}, Reads.{are_clean, AreClean, OnlyReads}, Recovery.Image}
 use Rattle.sqlite_wal.proofs.CleanLemmas.{both_clean}
-use Rattle.sqlite_pool.specs.declared.pool.Pool.{Pool}
-use Rattle.sqlite_pool.specs.Pool.{state, files}
-use Rattle.sqlite_store.specs.declared.store.open.Unopened.{Unopened}
-use Rattle.sqlite_store.specs.Unopened.{state_of, files_of, image}
-use Rattle.desk_database.specs.{Held.{IsKept, IsSpared}, Opening.{OnlyLooks, image_of, faults_of}}
+use Rattle.sqlite_pool.specs.{declared.pool.Pool.Pool, Pool.{state, files}}
+use Rattle.sqlite_store.specs.{declared.store.open.Unopened.Unopened, Unopened.{state_of, files_of, image}}
+use Rattle.desk_database.specs.{Held.{IsKept, IsSpared}, Opening.{OnlyLooks, image_of, faults_of, FindsRows, Leaves}, declared.left.Left.Left}
+use Rattle.desk_database.specs.declared.left.Left.TheVariants as left
 
 pool_files : {D : Type 0} {g : Ghosts D} (it : Pool D g)
     → ((state it).faults ≡ g.faults (files it).0 + g.faults (files it).1)
@@ -105,3 +101,38 @@ module _ {D : Type 0} {g : Ghosts D} (old now : Files D) (log : OnlyReads g old.
       → IsSpared (outcomes g old.log old.db left) (image_of g old) left
   spared_by_files left =
       spared_as _ _ (image fresh) (image_of g old) left (was_outcome left) same_image
+
+-- Files that were just opened hold what `S` says, and a crash leaves that.
+
+module _ {D : Type 0} {g : Ghosts D} (P Q : Image → Type 0) (a b : Image)
+    (was : (after : Image) → P after → Q after) (same : a ≡ b) where
+  pub kept_leaves : (rest : Left D g) → Leaves IsKept P a rest → Leaves IsKept Q b rest
+  kept_leaves (left.Files files) leaves =
+      λ after may. kept_as (P after) (Q after) a b after (was after) same (leaves after may)
+  kept_leaves (left.Unopened files) leaves =
+      λ after may. kept_as (P after) (Q after) a b after (was after) same (leaves after may)
+  kept_leaves (left.Store store) leaves =
+      λ db may. subst (λ i. FindsRows i db) same (leaves db may)
+
+  pub spared_leaves : (rest : Left D g) → Leaves IsSpared P a rest → Leaves IsSpared Q b rest
+  spared_leaves (left.Files files) leaves =
+      λ after may. spared_as (P after) (Q after) a b after (was after) same (leaves after may)
+  spared_leaves (left.Unopened files) leaves =
+      λ after may. spared_as (P after) (Q after) a b after (was after) same (leaves after may)
+  spared_leaves (left.Store store) leaves =
+      λ db may. subst (λ i. FindsRows i db) same (leaves db may)
+
+pub fresh_leaves : (mixes : Bool) (log db : List ℕ) (is_log for_log : Bool) (events : List Event)
+    (key : ℕ) (c : List ℕ) → is_log ≡ for_log → events ≡ settled key ∷ []
+    → MayLeave mixes (replay (cond is_log log db) events).seen
+    (replay (cond is_log log db) events).synced (replay (cond is_log log db) events).steps c
+    → c ≡ cond for_log log db
+fresh_leaves mixes log db is_log for_log events key c which is may = elim (rw (which, is) at may) [
+  | inl same ↦ same
+  | inr same ↦ same
+]
+
+pub fresh_faults : (log db : List ℕ) (is_log for_log : Bool) (events : List Event) (key : ℕ)
+    → is_log ≡ for_log → events ≡ settled key ∷ []
+    → (replay (cond is_log log db) events).faults ≡ 0
+fresh_faults log db is_log for_log events key which is = rw (which, is) refl

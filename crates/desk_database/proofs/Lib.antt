@@ -1,16 +1,12 @@
-pub mod AnswerWords
 pub mod Committing
 pub mod Moved
 pub mod Reasons
-pub mod RowColumns
 pub mod TableRows
 pub mod FailLemmas
 pub mod CatalogLemmas
 pub mod HeldLemmas
 pub mod FilesLemmas
-pub mod FreshLemmas
 pub mod TableLemmas
 pub mod TableRead
-pub mod FoundOnce
 pub mod StepLemmas
 pub mod LogLemmas

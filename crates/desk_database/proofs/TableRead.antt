@@ -1,15 +1,14 @@
 -- A store that was opened, and the memory in it, or why it is refused.
-use Rattle.std.proofs.Common.{◌≡◌, ◌≤◌, ℕ, IsTrue, refl, sym, ap, subst, ◌∙◌, inl, inr, arith}
-use Rattle.std.proofs.Math.Logic.{∥∥₁_map}
-use Rattle.sqlite_disk.specs.declared.Disk.{Ghosts}
-use Rattle.sqlite_disk.specs.Disk.{MoreFaults}
+use Rattle.std.proofs.{Common.{◌≡◌, ◌≤◌, ℕ, IsTrue, refl, sym, ap, subst, ◌∙◌, inl, inr, arith, []}, Math.Logic.∥∥₁_map}
+use Rattle.sqlite_disk.specs.{declared.Disk.Ghosts, Disk.MoreFaults}
 use Rattle.sqlite_wal.specs.Recovery.{Image}
-use Rattle.sqlite_trees.specs.Tree.{Trees}
-use Rattle.sqlite_trees.specs.View.{View}
-use Rattle.sqlite_store.specs.declared.store.FileStore.{FileStore}
-use Rattle.sqlite_store.specs.FileStore.{view, schema_of}
+use Rattle.sqlite_trees.specs.{Tree.Trees, View.View, declared.store.Shape.TheVariants.Table}
+use Rattle.sqlite_store.specs.{declared.store.FileStore.FileStore, FileStore.{view, schema_of}, Db.rows_at, Listing.file_trees}
 use Rattle.sqlite_store.proofs.ListingLemmas.{named_shape}
-use Rattle.desk_database.specs.{declared.{open_fault.OpenFault.OpenFault, memory_file_fault.MemoryFileFault.MemoryFileFault}, TableOpening.{HasReason, IsForeign}, Table.{HasSameRows, HasTables, IsFounded, IsUnfounded}, MemoryTables.memory_schema, Fault.fault_of_table, Held.{CanBeFounded, HasEntries, HoldsUnfounded, MayBeMemory}, Log.CanReplay, Opening.{Finds, FindsRows, FailsToOpen}}
+use Rattle.desk_database.specs.{declared.{open_fault.OpenFault.OpenFault, memory_file_fault.MemoryFileFault.MemoryFileFault}, TableOpening.{HasReason, IsForeign}, Table.{HasSameRows, HasTables, IsFounded, IsUnfounded}, MemoryTables.{memory_schema, page_size}, Fault.fault_of_table, Held.{CanBeFounded, HasEntries, HoldsUnfounded, MayBeMemory, HoldsMemory}, Log.CanReplay, Opening.{Finds, FindsRows, FailsToOpen}}
+use Rattle.sqlite_pool.specs.{File.in_use, StoredLaws.recovers_once}
+use Rattle.sqlite_pages.specs.PageMap.{PageMap}
+use Rattle.desk_database.proofs.HeldLemmas.{memory_is_something, memory_lists}
 use Rattle.desk_database.specs.declared.open_fault.OpenFault.TheVariants as table
 use Rattle.desk_database.specs.declared.memory_file_fault.MemoryFileFault.TheVariants as fault
 
@@ -76,3 +75,27 @@ from_table a b c v F U X why table.Unfounded less open_ foreign unfounded founde
     unfounded reason
 from_table a b c v F U X why table.Founded less open_ foreign unfounded founded reason =
     founded reason
+
+-- Files hold one memory, or none yet.
+
+pub one_memory : (image : Image) (db other : Trees) → HoldsMemory image db
+    → HoldsMemory image other → db ≡ other
+one_memory image db other held beside =
+    held.reads
+    ∙ ap (file_trees page_size memory_schema) (recovers_once _ _ _ _ held.found beside.found)
+    ∙ sym beside.reads
+
+-- what has entries is founded
+pub not_unfounded : (image : Image) → HasEntries image → ¬ HoldsUnfounded image
+not_unfounded image has (replay, inl blank) =
+    memory_is_something image has.0 has.1 (inl blank)
+not_unfounded image has (replay, inr (inl lacks)) =
+    memory_lists image has.0 has.1
+    (subst (λ (p : PageMap). rows_at page_size (in_use page_size p) Table 1 ≡ [])
+    (recovers_once _ _ _ _ lacks.1 has.1.found) lacks.2)
+not_unfounded image has (replay, inr (inr empty)) =
+    not_both has.0 has.2
+    (subst IsUnfounded (one_memory image empty.0 has.0 empty.1 has.1) empty.2)
+
+pub not_founded : (image : Image) → CanBeFounded image → ¬ HasEntries image
+not_founded image can has = not_unfounded image has (is_unfounded image can)

@@ -21,7 +21,7 @@ pub fn answer_of_text(text: &[u8]) -> Option<Answer>
 }
 
 // The one answer that a text may say.
-#[tactic(auto, using(crate::proofs::AnswerWords::answer_told, crate::proofs::AnswerWords::answer_untold))]
+#[tactic(auto, using(crate::proofs::TableRows::answer_told, crate::proofs::TableRows::answer_untold))]
 fn answer_like(text: &[u8]) -> Option<Answer>
     ensures { (answer : Said) → IsTrue (is_short_answer answer)
         → text.now ≡ answer_text answer → result ≡ Some answer }

@@ -8,7 +8,7 @@ use Rattle.text_scan.specs.{Key.key_of, declared.fault_at.FaultAt.FaultAt}
 use Rattle.text_scan.proofs.HexBytes.{key_of-ok}
 use Rattle.hex_loader.specs.HexImage.{image_of}
 use Rattle.hex_loader.proofs.ImageBytes.{image_of-bytes}
-use Rattle.hmac_core.proofs.Sha256Bytes.{sha256-bytes}
+use Rattle.hmac_core.proofs.SameBytes.{sha256-bytes}
 use Rattle.sha2.proofs.Facts256.{length-sha256}
 use Rattle.sha2.specs.Sha256.{sha256}
 use Rattle.mac_coverage.specs.Coverage.{Gives32Bytes, IsDeviceKey, IsOfBytes}
@@ -17,7 +17,7 @@ use Rattle.report_verifier.proofs.PolicyBounds.{policy_of-valid}
 use Rattle.input_files.specs.{Row.{FileKind, RowOf, Ends, Reads, go_on, read_file, file_value}, Reading.{Files, Reaches}, FileKind.{image_kind, key_kind, policy_kind, script_kind}}
 use Rattle.device_cli.specs.{Row.{Always, DevicePlay, start_in}, Load.{load_key, load_image}, FileKind.reports_kind, Answer.{IsLawful, IsLawfulRow, IsPutLawfully}, Play.{PlayOutcome, play_with, steps_of, steps_row}, Acceptance.EachAcceptHasGrounds, Round.{RoundsHaveGrounds, round_row}, Verify.verify_row, Work.{load_play, work_row}}
 use Rattle.device_cli.proofs.Grounds.{each_accept-has_grounds}
-use Rattle.device_play.proofs.PlayLaws.{keeps_key_hidden, obeys_laws}
+use Rattle.device_play.proofs.WatchedPlay.{keeps_key_hidden, obeys_laws}
 
 -- the value of a kind of file is that of its grammar
 value-grammar : {M : Type 0} (long : Bool) (past : FaultAt) (read : Result M FaultAt) (value : M)

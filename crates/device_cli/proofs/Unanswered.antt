@@ -1,18 +1,24 @@
 -- The first request that is not answered, by a tally of the verdicts, and what is put of it.
-use Rattle.std.proofs.Common.{◌≡◌, ◌<◌, ◌≤◌, ◌+◌, ◌&&◌, ℕ, zero, suc, Bool, true, false, List, Option, Some, None, Result, Ok, Err, length, refl, arith, inl, inr}
-use Rattle.std.specs.Prelude.{not, IsErrAnd}
-use Rattle.std.specs.List.{find, prefix_len, range_with_len, slice_get}
-use Rattle.std.specs.Option.{is_none}
-use Rattle.std.proofs.lemmas.Bool.{cases_eq, cases_lt}
-use Rattle.std.proofs.lemmas.List.Sums.{prefix_len-le-length, prefix_len_passes, prefix_len_stops}
-use Rattle.std.proofs.lemmas.Option.{slice_get-get_or, slice_get_cases, slice_get_past, slice_get_within}
+use Rattle.std.proofs.{Common.{◌≡◌, ◌<◌, ◌≤◌, ◌+◌, ◌&&◌, ℕ, zero, suc, Bool, true, false, List, Option, Some, None, Result, Ok, Err, length, refl, arith, inl, inr}, lemmas.{Bool.{cases_eq, cases_lt}, List.Sums.{prefix_len-le-length, prefix_len_passes, prefix_len_stops}, Option.{slice_get-get_or, slice_get_cases, slice_get_past, slice_get_within}}}
+use Rattle.std.specs.{Prelude.{not, IsErrAnd}, List.{find, prefix_len, range_with_len, slice_get}, Option.is_none}
 use Rattle.outside_edge.specs.{Calls.Rose, Sink.{Takes, TakesPrefix}}
 use Rattle.outside_edge.proofs.SinkLemmas.{prefix_after, prefix_of_more, takes_both}
 use Rattle.report_verifier.specs.{declared.{asked.Asked.Asked, verdict.Verdict.{Verdict, TheVariants.Accept}, expect.Expect.Expect}, Policy.{PolicyFields, expect_at, expectation}}
-use Rattle.device_play.specs.{declared.put_fault.PutFault.{PutFault, TheVariants.{Write, Memory}}}
+use Rattle.device_play.specs.declared.put_fault.PutFault.{PutFault, TheVariants.{Write, Memory}}
 use Rattle.device_trace.specs.Text.{some_line}
 use Rattle.device_cli.specs.{declared.ending.Ending.Ending, Answer.PutsOutcome, Row.{Outcome, ending_of}, Unanswered.{first_unanswered, is_answered, unanswered_line, with_unanswered}, Verdicts.is_accept}
-use Rattle.device_cli.proofs.Putting.{fails}
+
+-- How the putting of a text ends.
+
+-- writing failed
+pub fails : {W : Type 0} (stands : W → List ℕ → Type 0) (faults : W → ℕ) (old new : W)
+    (outcome : Outcome) (result : Result Ending PutFault)
+    → IsErrAnd result (λ error. error ≡ Write)
+    → TakesPrefix stands old new outcome.text
+    → Rose (faults old) (faults new)
+    → PutsOutcome stands faults old new outcome result
+fails stands faults old new outcome (Ok ending) is prefix rose = absurd is
+fails stands faults old new outcome (Err fault) is prefix rose = rw is (prefix, rose)
 
 -- what passes is found where it is the first that does, and lies in the range
 found-none : (p : ℕ → Bool) (k : ℕ) → ((i : ℕ) → i < k → p i ≡ false)

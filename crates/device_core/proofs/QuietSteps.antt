@@ -2,9 +2,10 @@
 use Rattle.std.proofs.Common.{◌≡◌, ◌∙◌, ◌||◌, ◌+◌, ◌-◌, ℕ, Bool, true, false, [], ◌∷◌, Option, Some, None, IsSome, is_some, refl, sym, ap, subst, arith}
 use Rattle.device_types.specs.{declared.{access.Access.{Access, TheVariants.Fetch}, bus_record.BusRecord.BusRecord, rule.Rule.Rule, signals.Signals.Signals}, ExecFlag.last_pc, Address.even}
 use Rattle.part_definitions.specs.{CpuRegister.{Registers, pc_of}, CpuState.{Boundary, cpu_access}, NextAccess.next_access, Dma.dma_access, FirstRule.first_rule}
-use Rattle.device_trace.specs.{Logs.{Logs, finishes_call, with_events, with_record}, Trace.{Play, logs_after}, Progress.last_registers, Signals.{proposed_access, signals_at, signals_of, step_kind, value_read}, Start.Start, Step.{dma_value_read, next_record, record_from, record_of}, Text.byte_sent_in}
-use Rattle.device_core.specs.{Bus.{LastStandsFor, logs_after_step}, Quiet.{AreOpen, AreQuiet, GoesOver, IsOpen, IsQuiet, Question}, Silence.{has_line, with_idle}, declared.last_step.LastStep.LastStep}
+use Rattle.device_trace.specs.{Logs.{Logs, finishes_call, with_events, with_record}, Trace.{Play, logs_after}, Progress.{last_registers, Progress, Held, Runs, InCall}, Signals.{proposed_access, signals_at, signals_of, step_kind, value_read}, Start.Start, Step.{dma_value_read, next_record, record_from, record_of}, Text.byte_sent_in}
+use Rattle.device_core.specs.{Bus.{LastStandsFor, logs_after_step}, Quiet.{AreOpen, AreQuiet, GoesOver, IsOpen, IsQuiet, Question}, Silence.{has_line, with_idle}, declared.{last_step.LastStep.LastStep, stage.Stage.TheVariants.Running as RunningStage}, Machine.{call_of, stage_of}}
 use Rattle.device_core.proofs.Idle.{each-after, each-more, flags-unkept, idle-behind, idle-more, silent-unkept}
+use Rattle.swatt_rom.specs.RomCall.{NoCall}
 
 no-rule : (sends finishes : Bool) (rule : Option Rule)
     → (sends || is_some rule || finishes) ≡ false → rule ≡ None
@@ -136,3 +137,10 @@ pub even-fetch :
     → Some (Fetch (even (pc_of regs))) ≡ Some access
 unfolding next_access
 even-fetch regs access is = is
+
+-- A processor that runs is in no call.
+
+pub no-call : (progress : Progress) → RunningStage ≡ stage_of progress → call_of progress ≡ NoCall
+no-call Held runs = absurd (cc (runs))
+no-call (Runs state) runs = refl
+no-call (InCall regs words) runs = absurd (cc (runs))

@@ -1,16 +1,131 @@
 -- What a debugger answers, wherever its session stands.
-use Rattle.std.proofs.Common.{◌≡◌, ◌∙◌, ℕ, Bool, true, false, List, [], ◌∷◌, Option, Some, None, Result, Ok, Err, IsErr, refl, ap, sym}
-use Rattle.std.specs.Prelude.{MatchOption, codes, if◌then◌else◌}
-use Rattle.std.proofs.lemmas.Option.{same_Some}
+use Rattle.std.proofs.{Common.{◌≡◌, ◌∙◌, ℕ, Bool, true, false, List, [], ◌∷◌, Option, Some, None, Result, Ok, Err, IsErr, refl, ap, sym, ◌++◌, ◌≤◌, arith}, lemmas.{Option.same_Some, Bool.false≢true, List.append-nil}}
+use Rattle.std.specs.Prelude.{MatchOption, codes, if◌then◌else◌, IsErrAnd}
 use Rattle.hmac_core.specs.Hash.{Hash}
 use Rattle.outside_edge.specs.Sink.{Takes, TakesPrefix}
-use Rattle.outside_edge.specs.declared.sink.Sink as sink
-use Rattle.debug_link.specs.{Conversation.{Answer, HaveCome, count_of}, Packet.packet_of, Writing.{Answers, PacketSink}, declared.{answer_fault.AnswerFault.AnswerFault, connection.Connection.{Connection, TheVariants.{Closed, Open}}}}
+use Rattle.debug_link.specs.{Conversation.{Answer, HaveCome, count_of}, Packet.{packet_of, packets_of}, Writing.{Answers, PacketSink, HasPut, CountsWriteFaults}, declared.{answer_fault.AnswerFault.{AnswerFault, TheVariants.Memory}, connection.Connection.{Connection, TheVariants.{Closed, Open}}}}
 use Rattle.debug_session.specs.{Command.command_of, declared.request.Request.{Request, TheVariants.Until}, Place.{Run, view_of}, Session.{Session, after_request, answer_of, closes, reply, says, with_stops}, Stops.Stops}
-use Rattle.debug_link.proofs.{Bodies.put_none, Interrupts.none-came}
+use Rattle.debug_link.proofs.{AddedText.{put_none, packets-both, put_both}, Interrupts.none-came}
 use Rattle.debug_walk.specs.{Copies.played_run, Walk.OfWalk, declared.walk.Walk.Walk}
 use Rattle.device_debug.specs.{Going.StandsAt, Session.{DebuggerStandsFor, Gives, MayGive, RunSession, StandsInRun, in_run, run_at, run_reply}, declared.{debugger.Debugger.Debugger, run_debugger.RunDebugger.RunDebugger}}
-use Rattle.device_debug.proofs.Answered.{all-answered, half-answered, half-put, none-answered, one-put}
+use Rattle.outside_edge.proofs.{SinkLemmas.{prefix_after, prefix_of_more}, Counts.rose_since}
+use Rattle.device_play.proofs.WriteCounts.{nothing-begun}
+use Rattle.outside_edge.specs.declared.sink.Sink as sink
+
+-- Answers that were put, whoever stands behind them.
+
+module _ {T S W : Type 0} (stands : T → S → Type 0) (w : sink.Ghosts W) where
+  -- all of its packets were put
+  pub all-answered : (old new : PacketSink W) (answerer : T) (answer : Answer S)
+      → stands answerer answer.session → HasPut w old new answer.packets
+      → Answers stands w old new answerer answer (Ok answer.connection)
+  all-answered old new answerer answer stood put =
+      record {
+        all = record {
+          connection_is = refl;
+          stood = stood;
+          puts = put;
+        };
+        prefix = tt;
+      }
+
+  -- a prefix of them was
+  pub half-answered : (old new : PacketSink W) (answerer : T) (answer : Answer S)
+      (result : Result Connection AnswerFault)
+      → IsErr result → TakesPrefix w.stands old.sink new.sink (packets_of answer.packets)
+      → Answers stands w old new answerer answer result
+  half-answered old new answerer answer (Ok connection) is prefix = absurd (false≢true is)
+  half-answered old new answerer answer (Err fault) is prefix = record { all = tt; prefix = prefix }
+
+  -- nothing was
+  pub none-answered : (same : PacketSink W) (answerer : T) (answer : Answer S)
+      (result : Result Connection AnswerFault)
+      → IsErr result → Answers stands w same same answerer answer result
+  none-answered same answerer answer result is =
+      half-answered same same answerer answer result is
+      (nothing-begun w.stands same.sink (packets_of answer.packets))
+
+  -- others were put before them
+  pub answered-behind : (old mid new : PacketSink W) (answerer : T) (answer : Answer S)
+      (bodies : List (List ℕ)) (result : Result Connection AnswerFault)
+      → HasPut w old mid bodies → Answers stands w mid new answerer answer result
+      → Answers stands w old new answerer
+      (record answer { packets = bodies ++ answer.packets }) result
+  answered-behind old mid new answerer answer bodies (Ok connection) put answers =
+      record {
+        all = record {
+          connection_is = answers.all.connection_is;
+          stood = answers.all.stood;
+          puts = put_both w old mid new bodies answer.packets put answers.all.puts;
+        };
+        prefix = tt;
+      }
+  answered-behind old mid new answerer answer bodies (Err fault) put answers =
+      record {
+        all = tt;
+        prefix = rw (packets-both bodies answer.packets)
+            (prefix_after w.stands old.sink mid.sink new.sink (packets_of bodies)
+            (packets_of answer.packets) put.takes answers.prefix);
+      }
+
+  -- those before them could not be put
+  pub failed-before : (old new : PacketSink W) (answerer : T) (answer : Answer S)
+      (bodies : List (List ℕ)) (result : Result Connection AnswerFault)
+      → IsErr result → TakesPrefix w.stands old.sink new.sink (packets_of bodies)
+      → Answers stands w old new answerer
+      (record answer { packets = bodies ++ answer.packets }) result
+  failed-before old new answerer answer bodies result is prefix =
+      half-answered old new answerer (record answer { packets = bodies ++ answer.packets }) result
+      is
+      (rw (packets-both bodies answer.packets)
+      (prefix_of_more w.stands old.sink new.sink (packets_of bodies) (packets_of answer.packets)
+      prefix))
+
+module _ {W : Type 0} (w : sink.Ghosts W) where
+  -- one packet was put
+  pub one-put : (old new : PacketSink W) (body : List ℕ)
+      → Takes w.stands old.sink new.sink (packet_of body) → new.last ≡ packet_of body
+      → HasPut w old new (body ∷ [])
+  unfolding packets_of
+  one-put old new body takes last =
+      record { takes = rw (append-nil (packet_of body)) takes; last = last }
+
+  -- or a prefix of it
+  pub half-put : (old new : PacketSink W) (body : List ℕ)
+      → TakesPrefix w.stands old.sink new.sink (packet_of body)
+      → TakesPrefix w.stands old.sink new.sink (packets_of (body ∷ []))
+  unfolding packets_of
+  half-put old new body prefix =
+      prefix_of_more w.stands old.sink new.sink (packet_of body) [] prefix
+
+-- What a call counts that answers, behind others.
+
+module _ {W : Type 0} (faults : W → ℕ) where
+  pub counts-since : {V : Type 0} (old mid new : W) (result : Result V AnswerFault)
+      → faults old ≤ faults mid → CountsWriteFaults faults mid new result
+      → CountsWriteFaults faults old new result
+  counts-since old mid new (Ok value) kept counts =
+      record { failed = tt; counted = omega (arith, kept, counts.counted) }
+  counts-since old mid new (Err fault) kept counts =
+      record {
+        failed = λ write. rose_since (faults old) (faults mid) (faults new) kept
+            (counts.failed write);
+        counted = omega (arith, kept, counts.counted);
+      }
+
+  -- there was no memory, which another call told
+  pub counts-memory : {V : Type 0} (old new : W) (fault : AnswerFault)
+      (result : Result V AnswerFault)
+      → IsErrAnd result (λ error. error ≡ fault) → fault ≡ Memory
+      → faults old ≤ faults new
+      → CountsWriteFaults faults old new result
+  counts-memory old new fault (Ok value) is memory kept = absurd is
+  counts-memory old new fault (Err error) is memory kept =
+      record { failed = λ write. absurd (cc (is, memory, write)); counted = kept }
+
+  pub counts-done : {V : Type 0} (old new : W) (value : V) → faults old ≤ faults new
+      → CountsWriteFaults faults old new (Ok value)
+  counts-done old new value kept = record { failed = tt; counted = kept }
 
 module _ {D : Type 0} (hash : Hash D) where
   -- its device is halted there

@@ -1,12 +1,39 @@
 -- A walk that stands where going back leads.
-use Rattle.std.proofs.Common.{◌≡◌, ◌≤◌, ◌<◌, inl, ℕ, true, Option, Some, None, refl, arith}
+use Rattle.std.proofs.{Common.{◌≡◌, ◌≤◌, ◌<◌, inl, ℕ, true, Option, Some, None, refl, arith, Bool, false}, lemmas.Bool.{cond-true, eq-eqb}}
 use Rattle.hmac_core.specs.Hash.{Hash}
-use Rattle.debug_session.specs.{Request.most_steps, Cause.Step, Going.{Standing, interrupted, last_stop}, Place.{Run, view_of}, Stops.Stops, declared.stop.Stop.{Stop, TheVariants.{Begin, Interrupted}}}
+use Rattle.debug_session.specs.{Request.most_steps, Cause.Step, Going.{Standing, interrupted, last_stop, lies_between}, Place.{Run, view_of}, Stops.Stops, declared.stop.Stop.{Stop, TheVariants.{Begin, Interrupted}}, Sight.View}
 use Rattle.debug_link.specs.Conversation.{HaveCome, count_of}
-use Rattle.debug_session.proofs.{Scans.last-none, Views.view-at}
+use Rattle.debug_session.proofs.{Scans.last-none, Views.view-at, Between.is-between}
 use Rattle.debug_walk.specs.{Copies.{IsAt, IsBegun}, Walk.place_of, declared.walk.Walk.Walk}
 use Rattle.device_debug.specs.{Ahead.IsLastBehind, Going.{HasArrived, StandsAt}}
-use Rattle.device_debug.proofs.{Ahead.at-boundary, Back.{NoneBehind, cause_back, found-last, found-none}, Interrupted.interrupted-here}
+use Rattle.device_debug.proofs.{Ahead.at-boundary, Back.{NoneBehind, cause_back, found-last, found-none}}
+use Rattle.std.specs.Prelude.{◌&&◌, ◌||◌, ◌==◌}
+
+-- Where an interrupt ends a way.
+
+or-true : (one other : Bool) → other ≡ true → (one || other) ≡ true
+or-true true other is = refl
+or-true false other is = is
+
+module _ (view : View) (from : ℕ) (now : Standing) where
+  -- at a boundary on the way ahead
+  pub interrupted-at : (place : ℕ) → from ≤ place → place ≤ now.place
+      → (view place).boundary ≡ true
+      → interrupted view from (Some place) now ≡ record { place = place; stop = Interrupted }
+  interrupted-at place after before here =
+      cond-true (lies_between from now.place place && ((view place).boundary || (place == from)))
+      (record { place = place; stop = Interrupted }) now
+      (λ i. is-between from now.place place (omega (arith, after)) (omega (arith, before)) i
+      && (here i || (place == from)))
+
+  -- or where it began
+  pub interrupted-here :
+      interrupted view from (Some from) now ≡ record { place = from; stop = Interrupted }
+  interrupted-here =
+      cond-true (lies_between from now.place from && ((view from).boundary || (from == from)))
+      (record { place = from; stop = Interrupted }) now
+      (λ i. is-between from now.place from (omega arith) (omega arith) i
+      && or-true (view from).boundary (from == from) (eq-eqb from from refl) i)
 
 module _ {D : Type 0} (hash : Hash D) (run : Run) where
   arrives-first : (now : Standing) (walk : Walk D) → now ≡ record { place = 1; stop = Begin }

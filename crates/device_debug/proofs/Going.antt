@@ -9,12 +9,12 @@ use Rattle.outside_edge.specs.declared.sink.Sink as sink
 use Rattle.printed_lines.specs.Line.{reset_line}
 use Rattle.debug_session.specs.{Request.most_steps, declared.{command.Way.TheVariants.Ahead, stop.Stop.{Stop, TheVariants.{End, Interrupted, Refused}}, watch.Hit.Hit}, Cause.{Step, behind, cause, cause_here, hit_on, is_plain, refusal_or, steps_over, stop_of}, Going.{Standing, first_stop, interrupted}, Place.{Run, sight_at, view_of}, Session.{lines_to, refused_step, told_lines, refusal_warning}, Sight.{Sight, StepSight, View}, Stops.Stops}
 use Rattle.debug_link.specs.{Console.console, Writing.{HasPut, PacketSink, PutsPackets}, declared.answer_fault.AnswerFault.{AnswerFault, TheVariants.Memory}}
-use Rattle.debug_link.proofs.Bodies.{put_both, put_none, puts_behind, puts_less}
+use Rattle.debug_link.proofs.AddedText.{put_both, put_none, puts_behind, puts_less}
 use Rattle.debug_session.proofs.{Scans.first-past, Views.{next-at, view-at}}
 use Rattle.debug_walk.specs.{Copies.IsAt, Passing.{ArePassed, AreSilent}, Walk.{TellsCause, Walks, place_of}, declared.walk.Walk.Walk}
 use Rattle.debug_walk.proofs.Views.{some-same}
 use Rattle.device_debug.specs.{Ahead.{both_of, last_boundary, refused_at, seek_ahead}, Going.{GoesOn, StandsAt, StopsBefore}, Telling.{GrownText, TellsStep, bodies_of}}
-use Rattle.device_debug.proofs.{Ahead.{IsClear, TellsAhead, at-boundary, cause_at, cause_by, none-at, stops-before-refusal, stops-here, stops-nowhere, tells-ahead, told_at, up-to}, Arrived.arrives-there, Back.{idle-over, plain-none}, Interrupted.interrupted-at, Kept.exact-tells, RefusalText.puts-none, Told.{IsPut, IsTold, put-here, put-until, told-both, told-first, told-on, told-step}}
+use Rattle.device_debug.proofs.{Ahead.{IsClear, TellsAhead, at-boundary, cause_at, cause_by, none-at, stops-before-refusal, stops-here, stops-nowhere, tells-ahead, told_at, up-to, IsPut, IsTold, put-here, put-until, told-both, told-first, told-on, told-step}, Arrived.{arrives-there, interrupted-at}, Back.{idle-over, plain-none, exact-tells}, Refusals.puts-none}
 
 both-parts : (last : Option ℕ) (told : Option Rule) (at : ℕ) (rule : Rule)
     → both_of last told ≡ Some (at, rule) → (last ≡ Some at) × (told ≡ Some rule)

@@ -8,7 +8,7 @@ use Rattle.debug_session.specs.{Request.most_steps, declared.{command.{Going.Goi
 use Rattle.debug_session.proofs.Views.{view-at}
 use Rattle.debug_walk.specs.{Copies.{TrackStandsFor, played_run}, Walk.{OfWalk, Walks, place_of}, declared.{track.Track.Track, walk.Walk.Walk}}
 use Rattle.device_debug.specs.{Ahead.{seek_ahead, seek_back}, Going.{GoesOn, HasArrived, StandsAt}, Session.{DebuggerStandsFor, Gives, MayGive, run_at, view_in}, declared.debugger.Debugger.Debugger}
-use Rattle.device_debug.proofs.{Answered.{answered-behind, failed-before}, Answering.halted-here}
+use Rattle.device_debug.proofs.Answering.{answered-behind, failed-before, halted-here}
 
 -- no request changes the place
 place-kept : (session : Session) (request : Request)

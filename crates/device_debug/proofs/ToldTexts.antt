@@ -1,19 +1,18 @@
 -- Texts that wait, and the packets of them that are put.
-use Rattle.std.proofs.Common.{◌≡◌, ◌<◌, ◌+◌, ◌∙◌, ◌++◌, ℕ, suc, true, false, List, [], ◌∷◌, Result, Ok, Err, length, get_or, take, drop, refl, ap, sym, subst, append_assoc, append-nil, ⊎_elim}
+use Rattle.std.proofs.{Common.{◌≡◌, ◌<◌, ◌+◌, ◌∙◌, ◌++◌, ℕ, suc, true, false, List, [], ◌∷◌, Result, Ok, Err, length, get_or, take, drop, refl, ap, sym, subst, append_assoc, append-nil, ⊎_elim, Some}, lemmas.{Bool.{cases_Bool, false≢true}, List.{take_more, take-append-drop}, Result.on_ok_weaker}}
 use Rattle.std.specs.Prelude.{IsErr, OnOk, is_ok, if◌then◌else◌}
-use Rattle.std.proofs.lemmas.Bool.{cases_Bool, false≢true}
-use Rattle.std.proofs.lemmas.List.{take_more, take-append-drop}
-use Rattle.std.proofs.lemmas.Result.{on_ok_weaker}
 use Rattle.hmac_core.specs.Hash.{Hash}
-use Rattle.outside_edge.specs.declared.sink.Sink as sink
 use Rattle.device_core.specs.{Device.LiveStandsFor, declared.live.Live.Live}
 use Rattle.device_trace.specs.Trace.{play_of}
 use Rattle.device_play.proofs.WriteCounts.{nothing-begun}
 use Rattle.debug_link.specs.{Console.console, Packet.packets_of, Writing.{HasPut, PacketSink, PutsPackets}}
-use Rattle.debug_link.proofs.Bodies.{put_both, put_none, puts_behind, puts_failed, puts_less}
-use Rattle.debug_session.specs.Place.{Run, sight_at}
+use Rattle.debug_link.proofs.AddedText.{put_both, put_none, puts_behind, puts_failed, puts_less}
+use Rattle.debug_session.specs.Place.{Run, sight_at, logs_at, play_to, step_sight}
 use Rattle.debug_walk.specs.{Walk.{AuxFlag, Walks, place_of, second_flag}, declared.walk.Walk.Walk}
 use Rattle.device_debug.specs.Telling.{GrownText, TellsStep, bodies_of, step_bodies}
+use Rattle.trace_files.specs.{LineText.trace_line, declared.trace_line.TraceLine.TraceLine, TraceText.last_line}
+use Rattle.debug_walk.proofs.Views.{some-same}
+use Rattle.outside_edge.specs.declared.sink.Sink as sink
 
 -- the packets of texts, one list behind another
 pub bodies-both : (xs ys : List GrownText) → bodies_of (xs ++ ys) ≡ bodies_of xs ++ bodies_of ys
@@ -162,3 +161,12 @@ last-stands {hash = hash} run walk live step same walks made =
     rw same
     (subst (λ (steps : ℕ). LiveStandsFor hash second_flag walk.live run.start
     (play_of run.events_at steps)) made walks.stands)
+
+-- The text of a step.
+
+-- the line that a device tells of its last step
+pub traced-text : (run : Run) (step : ℕ) (line : TraceLine)
+    → last_line run.start (play_to run (suc step)) ≡ Some line
+    → trace_line step line ≡ (step_sight run step).trace_line
+unfolding logs_at step_sight
+traced-text run step line is = ap (trace_line step) (sym (some-same is))

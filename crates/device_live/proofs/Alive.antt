@@ -4,7 +4,7 @@ use Rattle.device_types.specs.TraceFlag.{Flag}
 use Rattle.hmac_core.specs.Hash.{Hash}
 use Rattle.device_trace.specs.Start.{Start}
 use Rattle.device_core.specs.{Device.{LiveStandsFor, steps_made}, declared.live.Live.Live}
-use Rattle.device_play.proofs.IdlePlay.{length-play_of}
+use Rattle.device_play.proofs.WatchedPlay.{length-play_of}
 use Rattle.device_live.specs.{Life.{Life, events_in, play_lived}, Living.LivingStandsFor, declared.living.Living.Living}
 
 module _ {D G : Type 0} (hash : Hash D) (flag : Flag G) (living : Living D G) (start : Start)

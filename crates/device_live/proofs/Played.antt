@@ -9,7 +9,7 @@ use Rattle.device_trace.specs.{Start.Start, Text.lines_of_step, Trace.play_of}
 use Rattle.play_script.specs.{Playback.events_left, declared.playback.Playback.Playback}
 use Rattle.device_core.specs.{Device.{LiveStandsFor, steps_made}, Quiet.Question, declared.live.Live.Live}
 use Rattle.device_play.specs.{Account.IsPassed, Midway.{HasGoneOn, IsMidway}}
-use Rattle.device_play.proofs.{GoesOn.lines-go_on, IdlePlay.{gone-passed, length-play_of}, WatchedPlay.at-count}
+use Rattle.device_play.proofs.{GoesOn.lines-go_on, WatchedPlay.{gone-passed, length-play_of, at-count}}
 use Rattle.device_live.specs.{Life.{Life, events_in, lines_since, play_lived}, Living.PlaysOn}
 use Rattle.device_live.proofs.ToldPlay.{since-between}
 

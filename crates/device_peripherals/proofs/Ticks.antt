@@ -1,12 +1,79 @@
 -- Count and flag of a timer before its count comes to 0 again.
-use Rattle.std.proofs.Common.{◌≡◌, ◌<◌, ◌≤◌, ◌+◌, ◌-◌, ◌==◌, ℕ, zero, suc, Bool, List, ◌∷◌, true, false, min, if◌then◌else◌, arith, ◌∙◌, refl, sym, ap}
-use Rattle.std.proofs.lemmas.Bool.{eqb-true}
-use Rattle.std.proofs.Math.Nat.{mod-eq_of_lt}
+use Rattle.std.proofs.{Common.{◌≡◌, ◌<◌, ◌≤◌, ◌+◌, ◌-◌, ◌==◌, ℕ, zero, suc, Bool, List, ◌∷◌, true, false, min, if◌then◌else◌, arith, ◌∙◌, refl, sym, ap, ◌%◌, ◌&&◌, ◌||◌, add-one}, lemmas.Bool.{eqb-true, Decides.nat_tests}, Math.Nat.{mod-eq_of_lt, suc-mod, mod_self}}
 use Rattle.word_arith.specs.Number.{bit_of}
-use Rattle.std.proofs.lemmas.Bool.Decides.{nat_tests}
-use Rattle.part_definitions.specs.Timer.{TimerEvent, Tick, timer_runs, timer_writes, timer_count, timer_compare, timer_flag, timer_requests, timer_control, steps_of_count}
+use Rattle.part_definitions.specs.Timer.{TimerEvent, Tick, timer_runs, timer_writes, timer_count, timer_compare, timer_flag, timer_requests, timer_control, steps_of_count, timer_period, ends_period, distances}
 use Rattle.device_peripherals.specs.Timer.{with_ticks, ticks_before_zero}
-use Rattle.device_peripherals.proofs.Tick.{timer_count_within, timer_flag_within}
+use Rattle.std.specs.List.{list_any}
+
+-- Remainders of a number and of the next.
+
+suc-mod_within : (n period : ℕ) → n % period + 1 < period → suc n % period ≡ n % period + 1
+suc-mod_within n period within = grind (arith, suc-mod, mod-eq_of_lt)
+
+suc-mod_over : (n period : ℕ) → n % period + 1 ≡ period → suc n % period ≡ 0
+suc-mod_over n period over =
+    let same : suc (n % period) ≡ period = sym (add-one (n % period)) ∙ over in
+    suc-mod n period ∙ ap (λ m. m % period) same ∙ mod_self period
+
+-- a step more stays within the period
+pub mod_within : (steps period : ℕ) → 0 < steps → (steps - 1) % period + 1 < period
+    → steps % period ≡ (steps - 1) % period + 1
+mod_within steps period some within = grind (arith, suc-mod_within)
+
+-- a step more ends the period
+pub mod_over : (steps period : ℕ) → 0 < steps → (steps - 1) % period + 1 ≡ period
+    → steps % period ≡ 0
+mod_over steps period some over = grind (arith, suc-mod_over)
+
+-- Count and flag of a timer that runs, after one step more.
+
+-- the count is the remainder of the distance
+timer_count-running : (events : List TimerEvent) → timer_runs events ≡ true
+    → timer_count events ≡ (steps_of_count events - 1) % (timer_compare events + 1)
+timer_count-running events runs = grind arith
+
+-- after a step more the distance is the steps so far
+timer_count-ticked : (events : List TimerEvent) → timer_runs events ≡ true
+    → timer_count (Tick ∷ events) ≡ steps_of_count events % (timer_compare events + 1)
+timer_count-ticked events runs = grind arith
+
+pub timer_count_within : (events : List TimerEvent) → timer_runs events ≡ true
+    → 0 < steps_of_count events → timer_count events < timer_compare events
+    → timer_count (Tick ∷ events) ≡ timer_count events + 1
+timer_count_within events runs some below =
+    grind (arith, timer_count-running, timer_count-ticked, mod_within)
+
+pub timer_count_over : (events : List TimerEvent) → timer_runs events ≡ true
+    → 0 < steps_of_count events → timer_compare events ≤ timer_count events
+    → timer_count (Tick ∷ events) ≡ 0
+timer_count_over events runs some past =
+    grind (arith, timer_count-running, timer_count-ticked, mod_over)
+
+-- the flag rises where a period ends at the steps so far
+timer_flag-ticked : (events : List TimerEvent)
+    → timer_flag (Tick ∷ events)
+    ≡ (timer_runs events && (ends_period (timer_period events) (steps_of_count events)
+    || list_any (ends_period (timer_period events)) (distances events)))
+timer_flag-ticked events = grind arith
+
+pub timer_flag_within : (events : List TimerEvent) → timer_runs events ≡ true
+    → 0 < steps_of_count events → timer_count events < timer_compare events
+    → timer_flag (Tick ∷ events) ≡ timer_flag events
+timer_flag_within events runs some below =
+    let next : timer_count (Tick ∷ events) ≡ timer_count events + 1 =
+    timer_count_within events runs some below in
+    let count : timer_count (Tick ∷ events) ≡ steps_of_count events % (timer_compare events + 1) =
+    timer_count-ticked events runs in
+    timer_flag-ticked events ∙ grind (arith, nat_tests)
+
+pub timer_flag_over : (events : List TimerEvent) → timer_runs events ≡ true
+    → 0 < steps_of_count events → timer_compare events ≤ timer_count events
+    → timer_flag (Tick ∷ events) ≡ true
+timer_flag_over events runs some past =
+    grind (arith, nat_tests, timer_count_over, timer_count-ticked, timer_flag-ticked)
+
+-- a step more of a timer that runs: the count goes on, or a period ends and the flag rises
+pub ruleset tick_facts = (timer_count_within, timer_count_over, timer_flag_within, timer_flag_over)
 
 pub ticks-writes : (steps : ℕ) (events : List TimerEvent)
     → timer_writes (with_ticks steps events) ≡ timer_writes events

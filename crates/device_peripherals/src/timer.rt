@@ -88,7 +88,7 @@ impl Timer {
     }
 
     // Counts one step.
-    #[tactic(auto, using(crate::proofs::Tick::tick_facts))]
+    #[tactic(auto, using(crate::proofs::Ticks::tick_facts))]
     fn advance(&mut self)
         ensures { (events : List TimerEvent)
             → TimerStandsFor self.old events

@@ -1,10 +1,5 @@
-pub mod Cuts
 pub mod GoesOn
-pub mod IdlePlay
-pub mod PlayLaws
-pub mod PutsLemmas
 pub mod SeenStep
-pub mod SilentStep
 pub mod StepLines
 pub mod TracedStep
 pub mod WaveStep

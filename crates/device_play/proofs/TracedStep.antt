@@ -8,7 +8,7 @@ use Rattle.device_trace.specs.{Trace.{Play, last_bounds, last_record, last_signa
 use Rattle.device_core.specs.Silence.{last_refused, where_refused}
 use Rattle.key_isolation.proofs.Bytes.{zero_either}
 use Rattle.trace_files.specs.{declared.trace_line.TraceLine.TraceLine, LineText.trace_line, LineReadBack.{ArePrintable, IsPrintable}, LineGrammar.trace_of, TraceText.{last_line, next_line, trace_lines, trace_text, word_shown}}
-use Rattle.trace_files.proofs.FileReadBack.{file_reads_back}
+use Rattle.trace_files.proofs.LineReadBack.{file_reads_back}
 use Rattle.device_play.specs.{Accounts.trace_account, Limit.most_steps, TraceLine.{proposal_shown, value_shown, word_read}}
 
 -- the word that a line shows goes by where the access is, which a record keeps

@@ -1,15 +1,160 @@
 -- A play before a watcher: what was said of the steps so far, and what is still to come.
-use Rattle.std.proofs.Common.{◌≡◌, ◌≤◌, ◌<◌, ◌+◌, ◌-◌, ◌++◌, ◌∙◌, [], ℕ, zero, suc, Bool, List, Result, Ok, Err, refl, sym, ap, subst, arith, append_assoc, append-nil}
+use Rattle.std.proofs.{Common.{◌≡◌, ◌≤◌, ◌<◌, ◌+◌, ◌-◌, ◌++◌, ◌∙◌, [], ℕ, zero, suc, Bool, List, Result, Ok, Err, refl, sym, ap, subst, arith, append_assoc, append-nil, true, false, ◌∷◌, length, ⊎_elim, Some}, lemmas.Bool.{cases_lt, false_from_ne_true, false≢true}}
 use Rattle.std.specs.Prelude.{Contains, IsErrAnd}
-use Rattle.device_types.specs.{Address.Bytes, declared.event.Event.Event, TraceFlag.Flag}
+use Rattle.device_types.specs.{Address.{Bytes, Contents}, declared.{event.Event.Event, bounds.Bounds.Bounds}, TraceFlag.Flag, Report.ReportFields, ExecFlag.SeenHistory}
 use Rattle.hmac_core.specs.Hash.{Hash}
 use Rattle.outside_edge.specs.Sink.{Takes, TakesPrefix}
 use Rattle.outside_edge.proofs.SinkLemmas.{prefix_after, prefix_of_more, takes_both}
-use Rattle.device_trace.specs.{Trace.{Play, play_of}, Start.Start}
+use Rattle.device_trace.specs.{Trace.{Play, play_of, trace}, Start.{Start, with_key}, RegionRun.{TrustedRun, WholeRun}, Text.last_report}
 use Rattle.play_script.specs.declared.playback.Playback.{Playback}
-use Rattle.device_core.specs.{Device.{LiveStandsFor, steps_made}, Quiet.Question, declared.live.Live.Live}
-use Rattle.device_play.specs.{Account.{Account, GoesOn, IsPassed, whole_text}, Cuts.TakesOneOf, Midway.{HasGoneOn, IsMidway}, Watching.{HasSeen, IsShown, IsWatched}, declared.put_fault.PutFault.{PutFault, TheVariants.{Write, Memory}}}
-use Rattle.device_play.proofs.{IdlePlay.{gone-passed, length-play_of}, PlayLaws.{keeps_key_hidden, obeys_laws_with}}
+use Rattle.device_core.specs.{Device.{LiveStandsFor, steps_made}, Quiet.Question, declared.live.Live.Live, Silence.{OfEach, is_silent, with_idle}}
+use Rattle.device_play.specs.{Account.{Account, GoesOn, IsPassed, whole_text}, Cuts.TakesOneOf, Midway.{HasGoneOn, IsMidway}, Watching.{HasSeen, IsShown, IsWatched}, declared.put_fault.PutFault.{PutFault, TheVariants.{Write, Memory}}, PlayLaws.{IsLawfulReport, IsLawfulMoment, KeepsKeyHidden, ObeysLaws}}
+use Rattle.part_definitions.specs.{Hmac.Digest, Request.ATTESTS}
+use Rattle.trace_facts.proofs.{NeverBroken.trace-names_neither, LastReport.last_report-made, SoundPlay.trace-in_call}
+use Rattle.key_isolation.proofs.TwoKeys.{looks_keyless}
+use Rattle.mac_coverage.specs.Coverage.{IsDeviceKey, IsOfBytes, MacCoversCall}
+use Rattle.mac_coverage.proofs.Plays.{last_report-finishes, mac_covers_call, some_same}
+use Rattle.proof_of_execution.proofs.Plays.{decision-whole_run}
+use Rattle.request_freshness.proofs.Reports.{report-new}
+use Rattle.trusted_execution.proofs.StillTime.{decision-trusted_run}
+use Rattle.device_core.proofs.Outside.{keeps-counter}
+
+-- A play obeys the laws of the device.
+
+pub keeps_key_hidden : (start : Start) (play : Play) → KeepsKeyHidden start play
+keeps_key_hidden start play = λ later earlier parts. looks_keyless start earlier
+
+lawful_moment : (flag : SeenHistory → Bool) (digest : Digest) (key : Bytes) (image : Contents)
+    (play : Play) → IsDeviceKey key → IsOfBytes image
+    → IsLawfulMoment digest key (with_key flag digest key image) play
+lawful_moment flag digest key image play device_key bytes =
+    let start : Start = with_key flag digest key image in
+    record {
+      call = mac_covers_call flag digest key image play device_key bytes;
+      whole_run = decision-whole_run start play;
+      trusted_run = λ is_aux. decision-trusted_run start play is_aux;
+      counter = keeps-counter flag digest key image play device_key bytes;
+    }
+
+-- a report at a lawful moment
+pub lawful_report : (digest : Digest) (key : Bytes) (start : Start) (play : Play)
+    (report : ReportFields) → IsLawfulMoment digest key start play
+    → last_report start play ≡ Some report
+    → IsLawfulReport digest key start report play
+lawful_report digest key start play report moment is =
+    let made = last_report-finishes start play report is in
+    let same = (last_report-made start play report is).same in
+    let covers : MacCoversCall digest key start play = moment.call made.in_call in
+    record {
+      contents = covers.contents;
+      throughout = λ later earlier parts within.
+          covers.throughout later earlier parts within
+          (λ refuses. absurd (false≢true (sym made.refused ∙ refuses)));
+      tag = λ gives.
+          made.mac
+          ∙ covers.stored made.finished
+          (some_same (sym (covers.told made.finished) ∙ made.attests)) gives;
+      whole_run = λ set.
+          subst (λ (bounds : Bounds). WholeRun bounds (trace start play))
+          (ap (λ (r : ReportFields). r.bounds) same)
+          (moment.whole_run ATTESTS made.attests (ap (λ (r : ReportFields). r.exec) same ∙ set));
+      trusted_run = λ is_aux set.
+          subst (λ (bounds : Bounds). TrustedRun bounds (trace start play))
+          (ap (λ (r : ReportFields). r.bounds) same)
+          (moment.trusted_run is_aux ATTESTS made.attests
+          (ap (λ (r : ReportFields). r.aux) same ∙ set));
+    }
+
+pub obeys_laws : (flag : SeenHistory → Bool) (digest : Digest) (key : Bytes) (image : Contents)
+    (play : Play) → IsDeviceKey key → IsOfBytes image
+    → ObeysLaws digest key (with_key flag digest key image) play
+obeys_laws flag digest key image play device_key bytes =
+    let start : Start = with_key flag digest key image in
+    record {
+      moments = λ later earlier parts.
+          lawful_moment flag digest key image earlier device_key bytes;
+      fresh = λ later earlier parts report.
+          report-new flag digest key image earlier report device_key bytes;
+      rules = trace-names_neither start play;
+      rom = trace-in_call start play;
+    }
+
+-- the same of a start that is one of a device with this key
+pub obeys_laws_with : (flag : SeenHistory → Bool) (digest : Digest) (start : Start) (play : Play)
+    (key : Bytes) (image : Contents) → IsDeviceKey key → IsOfBytes image
+    → start ≡ with_key flag digest key image
+    → ObeysLaws digest key start play
+obeys_laws_with flag digest start play key image device_key bytes same =
+    rw same (obeys_laws flag digest key image play device_key bytes)
+
+-- A play whose next steps have no events.
+
+pub length-play_of :
+    (events_at : ℕ → List Event) (steps : ℕ) → length (play_of events_at steps) ≡ steps
+length-play_of events_at zero = refl
+length-play_of events_at (suc steps) = ap suc (length-play_of events_at steps)
+
+pub idle-play :
+    (events_at : ℕ → List Event) (from until more : ℕ)
+    → until ≡ more + from
+    → ((step : ℕ) → from ≤ step → step < until → events_at step ≡ [])
+    → with_idle more (play_of events_at from) ≡ play_of events_at until
+idle-play events_at from until zero sum none =
+    let same : from ≡ until = omega arith in ap (play_of events_at) same
+idle-play events_at from until (suc more) sum none =
+    let same : until ≡ suc (more + from) = omega arith in
+    let earlier = idle-play events_at from (more + from) more refl
+    (λ step after below. none step after (omega arith)) in
+    let here : events_at (more + from) ≡ [] = none (more + from) (omega arith) (omega arith) in
+    rw (same, earlier, here) refl
+
+-- what holds with each of the first so many of such steps
+each-at :
+    (holds : Play → Type 0) (play : Play) (steps step : ℕ)
+    → OfEach holds steps play
+    → step < steps
+    → holds (with_idle step play)
+each-at holds play zero step all below = absurd (omega arith)
+each-at holds play (suc steps) step all below = ⊎_elim
+    (λ less. each-at holds play steps step all.1 less)
+    (λ over.
+    let same : steps ≡ step = omega arith in
+    subst (λ last. holds (with_idle last play)) same all.0)
+    (cases_lt step steps)
+
+-- where they are steps of a play
+pub each-in-play :
+    (holds : Play → Type 0) (events_at : ℕ → List Event) (from count : ℕ)
+    → ((step : ℕ) → from ≤ step → step < count + from → events_at step ≡ [])
+    → OfEach holds count (play_of events_at from)
+    → (step : ℕ)
+    → from ≤ step
+    → step < count + from
+    → holds (play_of events_at step)
+each-in-play holds events_at from count none all step after below =
+    subst holds
+    (idle-play events_at from step (step - from) (omega arith)
+    (λ one before earlier. none one before (omega arith)))
+    (each-at holds (play_of events_at from) count (step - from) all (omega arith))
+
+-- a watcher that is not shown every step is shown none of those that came before the last
+pub gone-passed :
+    {D G : Type 0} {hash : Hash D} {flag : Flag G} {every_step : Bool} {quiet : Question}
+    {start : Start} {events_at : ℕ → List Event} {from : ℕ} {live : Live D G} {left : Playback}
+    → HasGoneOn hash flag every_step quiet start events_at from live left
+    → (step : ℕ)
+    → from ≤ step
+    → step + 1 < steps_made live
+    → IsPassed every_step start (play_of events_at (suc step))
+gone-passed {every_step = every_step} {start = start} {events_at = events_at} gone step after
+    below =
+    let (none, quiet) = gone.quietly step after below in
+    let unshown : every_step ≡ false =
+    false_from_ne_true every_step (λ shown. omega (arith, after, below, gone.alone shown)) in
+    let silent : is_silent start (events_at step ∷ play_of events_at step) ≡ true =
+    subst (λ events. is_silent start (events ∷ play_of events_at step) ≡ true) (sym none)
+    quiet.silent in
+    (unshown, silent)
 
 -- what a watcher says goes on from step to step
 abbrev pub AlwaysGoesOn : {T : Type 0} → Account T → Bool → Start → Type 0

@@ -1,9 +1,15 @@
 -- A call that puts text and may run out of memory: what it put, and what it counted.
-use Rattle.std.proofs.Common.{◌≡◌, ◌≤◌, ◌⊎◌, [], ℕ, List, Result, Ok, Err, inl, refl, arith}
-use Rattle.std.specs.Prelude.{IsErrAnd}
-use Rattle.outside_edge.specs.{Calls.Rose, Sink.{TakesPrefix, Puts}}
-use Rattle.device_play.specs.{declared.put_fault.PutFault.{PutFault, TheVariants.{Write, Memory}}, Cuts.CountsWriteFaults}
-use Rattle.device_play.proofs.PutsLemmas.{takes-nothing}
+use Rattle.std.proofs.{Common.{◌≡◌, ◌≤◌, ◌⊎◌, [], ℕ, List, Result, Ok, Err, inl, refl, arith, append-nil, ◌∙◌, ◌++◌, ◌∷◌, Bool, true, ap, sym}, Math.ListN.get_or-map, lemmas.List.{length-map, Elements.Contains-push}}
+use Rattle.std.specs.Prelude.{IsErrAnd, Contains, if◌then◌else◌}
+use Rattle.outside_edge.specs.{Calls.Rose, Sink.{TakesPrefix, Puts, Takes}}
+use Rattle.device_play.specs.{declared.put_fault.PutFault.{PutFault, TheVariants.{Write, Memory}}, Cuts.{CountsWriteFaults, behind, TakesOneOf, StopsOnlyAt}}
+use Rattle.outside_edge.proofs.SinkLemmas.{takes_both}
+
+-- A text of which nothing was put.
+
+pub takes-nothing : {S : Type 0} (stands : S → List ℕ → Type 0) (same : S)
+    → Takes stands same same []
+takes-nothing stands same = λ before holds. rw append-nil holds
 
 -- nothing was put of a text
 pub nothing-begun : {S : Type 0} (stands : S → List ℕ → Type 0) (same : S) (text : List ℕ)
@@ -55,3 +61,42 @@ counts-passed faults old mid new fault (Err error) is same counts = record {
   quiet = tt;
   counted = rw same at counts.counted;
 }
+
+-- Where the putting of a text stopped, and what was put until then.
+
+-- each of them is one behind that text
+pub contains-behind :
+    (before : List ℕ) (cuts : List (List ℕ)) (cut : List ℕ)
+    → Contains cuts cut → Contains (behind before cuts) (before ++ cut)
+contains-behind before cuts cut has =
+    let place : List ℕ → List ℕ = λ bytes. before ++ bytes in (
+      has.0,
+      omega (arith, length-map cuts place, has.1),
+      get_or-map place cuts has.0 cut ∙ ap place has.2,
+    )
+
+-- memory ran out in a call whose answer is handed on, behind what was put before
+pub stops-later :
+    {S V : Type 0} (stands : S → List ℕ → Type 0) (old mid new : S) (before : List ℕ)
+    (cuts : List (List ℕ)) (fault : PutFault) (result : Result V PutFault)
+    → IsErrAnd result (λ error. error ≡ fault)
+    → Takes stands old mid before
+    → (fault ≡ Memory → TakesOneOf stands mid new cuts)
+    → StopsOnlyAt stands old new (behind before cuts) result
+stops-later stands old mid new before cuts fault (Ok value) is takes stops = tt
+stops-later stands old mid new before cuts fault (Err error) is takes stops = λ memory.
+    let here = stops (sym is ∙ memory) in (
+      before ++ here.0,
+      contains-behind before cuts here.0 here.1,
+      takes_both stands old mid new before here.0 takes here.2,
+    )
+
+-- memory ran out before the first byte
+pub stops-at_first :
+    {S V : Type 0} (stands : S → List ℕ → Type 0) (same : S) (has_pair : Bool)
+    (result : Result V PutFault)
+    → has_pair ≡ true
+    → StopsOnlyAt stands same same (if has_pair then [] ∷ [] else []) result
+stops-at_first stands same has_pair (Ok value) pair = tt
+stops-at_first stands same has_pair (Err error) pair = λ memory.
+    rw pair ([], Contains-push [] [], takes-nothing stands same)

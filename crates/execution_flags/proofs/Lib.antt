@@ -1,3 +1,2 @@
 pub mod QuietStep
-pub mod UnclearedRun
 pub mod UnclearedStarts

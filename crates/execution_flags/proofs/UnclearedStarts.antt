@@ -1,9 +1,73 @@
 -- The flag is set exactly where there is an uncleared start: by induction on the records seen.
-use Rattle.std.proofs.Common.{◌≡◌, ◌≤◌, ◌+◌, ◌||◌, ◌++◌, ℕ, Bool, true, false, not, List, [], ◌∷◌, Option, length, IsTrue, ◌↔◌, sym, ◌∙◌, ap, inl, inr, refl, arith}
-use Rattle.std.proofs.lemmas.Bool.{and_parts, or_cases, and_from, or_left, or_right, not-true, not_from_false, false_from_ne_true, both_ways}
-use Rattle.device_types.specs.ExecFlag.{SeenRecord, starts_run, last_pc, is_set}
+use Rattle.std.proofs.{Common.{◌≡◌, ◌≤◌, ◌+◌, ◌||◌, ◌++◌, ℕ, Bool, true, false, not, List, [], ◌∷◌, Option, length, IsTrue, ◌↔◌, sym, ◌∙◌, ap, inl, inr, refl, arith, ◌==◌, ◌&&◌, if◌then◌else◌}, lemmas.Bool.{and_parts, or_cases, and_from, or_left, or_right, not-true, not_from_false, false_from_ne_true, both_ways}, Math.Bool.{and-true, and-false, or_comm}}
+use Rattle.device_types.specs.{ExecFlag.{SeenRecord, starts_run, last_pc, is_set, is_opcode_fetch, records_since}, Bounds.are_valid}
 use Rattle.execution_flags.specs.UnclearedStart.{Moment, UnclearedStart}
-use Rattle.execution_flags.proofs.UnclearedRun.{uncleared_run-cons}
+use Rattle.std.specs.List.{list_any}
+
+-- How a flag of a run changes at a record, whichever records clear it.
+
+-- it is set where it was set before or the record starts a run, and the record does not clear it
+pub uncleared_run-cons : (clears : Option ℕ → SeenRecord → Bool) (now : SeenRecord)
+    (before : List SeenRecord)
+    → is_set clears (now ∷ before)
+    ≡ ((is_set clears before || starts_run now) && not (clears (last_pc before) now))
+uncleared_run-cons clears now before =
+    let was_set : Bool = is_set clears before in
+    elim (clears (last_pc before) now) as
+    (λ is_clear.
+    list_any starts_run (if is_clear then [] else now ∷ records_since clears before)
+    ≡ ((was_set || starts_run now) && not is_clear)) [
+      | true ↦ sym (and-false (was_set || starts_run now))
+      | false ↦ or_comm (starts_run now) was_set ∙ sym (and-true (was_set || starts_run now))
+    ]
+
+-- so it is of a flag of a run
+pub flag-cons : {flag : List SeenRecord → Bool} (clears : Option ℕ → SeenRecord → Bool)
+    → ((records : List SeenRecord) → flag records ≡ is_set clears records)
+    → (now : SeenRecord) (before : List SeenRecord)
+    → flag (now ∷ before) ≡ ((flag before || starts_run now) && not (clears (last_pc before) now))
+flag-cons clears of_run now before =
+    of_run (now ∷ before)
+    ∙ uncleared_run-cons clears now before
+    ∙ ap (λ was_set. (was_set || starts_run now) && not (clears (last_pc before) now))
+    (sym (of_run before))
+
+-- a record at another place than ERmin starts no run
+pub starts_run-elsewhere : (now : SeenRecord)
+    → (now.entry.pc == now.bounds.er_min) ≡ false → starts_run now ≡ false
+starts_run-elsewhere now elsewhere =
+    let fetches : Bool = is_opcode_fetch now.entry in
+    let valid : Bool = are_valid now.bounds in
+    ap (λ here. fetches && here && valid) elsewhere
+    ∙ elim fetches as (λ fetches. (fetches && false && valid) ≡ false) [
+      | true ↦ refl
+      | false ↦ refl
+    ]
+
+-- a flag that is not set stays so at a record at another place than ERmin
+pub flag-elsewhere : {flag : List SeenRecord → Bool} (clears : Option ℕ → SeenRecord → Bool)
+    → ((records : List SeenRecord) → flag records ≡ is_set clears records)
+    → (now : SeenRecord) (before : List SeenRecord)
+    → flag before ≡ false
+    → (now.entry.pc == now.bounds.er_min) ≡ false
+    → flag (now ∷ before) ≡ false
+flag-elsewhere clears of_run now before unset elsewhere =
+    let keeps : Bool = not (clears (last_pc before) now) in
+    flag-cons clears of_run now before
+    ∙ ap (λ was_set. (was_set || starts_run now) && keeps) unset
+    ∙ ap (λ starts. starts && keeps) (starts_run-elsewhere now elsewhere)
+
+-- a flag that is set stays so at a record that does not clear it
+pub flag-spared : {flag : List SeenRecord → Bool} (clears : Option ℕ → SeenRecord → Bool)
+    → ((records : List SeenRecord) → flag records ≡ is_set clears records)
+    → (now : SeenRecord) (before : List SeenRecord)
+    → flag before ≡ true
+    → clears (last_pc before) now ≡ false
+    → flag (now ∷ before) ≡ true
+flag-spared clears of_run now before set spared =
+    flag-cons clears of_run now before
+    ∙ ap (λ was_set. (was_set || starts_run now) && not (clears (last_pc before) now)) set
+    ∙ ap not spared
 
 -- the record at which the records seen end
 abbrev newest : (now : SeenRecord) (before : List SeenRecord) → Moment (now ∷ before)

@@ -1,10 +1,8 @@
 pub mod Digits
-pub mod UpperDigits
 pub mod ImageBytes
 pub mod Placing
 pub mod ReadBack
 pub mod ReadLines
-pub mod RecordRead
 pub mod Runs
 pub mod ShownBytes
 pub mod WritePieces

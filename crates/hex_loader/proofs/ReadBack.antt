@@ -1,16 +1,111 @@
 -- The text of an image is read as that image.
-use Rattle.std.proofs.Common.{◌≡◌, ◌∙◌, ◌≤◌, ◌<◌, ◌+◌, ◌-◌, ◌%◌, ◌⊎◌, ℕ, zero, suc, Bool, true, false, cond, List, [], ◌∷◌, ◌++◌, length, reverse, append_assoc, zero-add, Option, Some, None, Ok, refl, sym, ap, arith, inl, inr, codes}
-use Rattle.std.specs.Prelude.{IsSome, ◌&&◌, ◌||◌, nat_le}
-use Rattle.std.specs.Option.{option_or}
-use Rattle.std.specs.Str.Lines.{lines}
-use Rattle.std.proofs.lemmas.Bool.{cases_lt, leb-true}
-use Rattle.std.proofs.lemmas.List.{append-nil}
-use mathlib.Core.List.{reverse_aux}
-use Rattle.hex.specs.Hex.{decode_pairs, encode_upper, IsBytes}
+use Rattle.std.proofs.{Common.{◌≡◌, ◌∙◌, ◌≤◌, ◌<◌, ◌+◌, ◌-◌, ◌%◌, ◌⊎◌, ℕ, zero, suc, Bool, true, false, cond, List, [], ◌∷◌, ◌++◌, length, reverse, append_assoc, zero-add, Option, Some, None, Ok, refl, sym, ap, arith, inl, inr, codes, ◌*◌, ◌/◌, eqb, length-append, take, drop, sum, Result, Err, get_or}, lemmas.{Bool.{cases_lt, leb-true, eq-eqb}, List.{append-nil, Sums.{sum_by-append, AllPass-from_list_all}}}, Math.Seq.take-append_seam}
+use Rattle.std.specs.{Prelude.{IsSome, ◌&&◌, ◌||◌, nat_le}, Option.option_or, Str.Lines.lines, List.list_all, Char.is_ascii_hexdigit}
+use Rattle.hex.specs.Hex.{decode_pairs, encode_upper, IsBytes, upper_digits, decode_sized, encode_with}
 use Rattle.part_definitions.specs.Memory.{is_image_place}
-use Rattle.hex_loader.specs.{HexRecord.{Places, EndOfFile, record_in}, HexImage.{base_after, has_ended, last_byte_placed, are_image_places, first_fault}, HexText.{is_record_start, record_bytes, data_line, line_at, lines_below, end_line, hex_text}, ReadBack.IsReadBack}
+use Rattle.hex_loader.specs.{HexRecord.{Places, EndOfFile, record_in, Meaning, record_of_bytes, record_of_type, record_or_fault, big_endian}, HexImage.{base_after, has_ended, last_byte_placed, are_image_places, first_fault}, HexText.{is_record_start, record_bytes, data_line, line_at, lines_below, end_line, hex_text, check_of, data_record}, ReadBack.IsReadBack}
 use Rattle.mem_map.specs.{Image.byte_among, ImagePlace.IsImage}
-use Rattle.hex_loader.proofs.{UpperDigits.{behind-encoded, behind-line, lines-behind}, RecordRead.{record_line, written_bytes, record_in-line, record_of_bytes-written, IsBytes-written}, Runs.{run-sound, run-short, run-bytes, run-places, byte_among-some, is_covered}}
+use Rattle.hex_loader.proofs.Runs.{run-sound, run-short, run-bytes, run-places, byte_among-some, is_covered}
+use Rattle.hex.proofs.HexLemmas.{decode_sized-twice, decode_of-encode_upper, length-encode_with}
+use Rattle.text_scan.specs.{declared.fault_kind.FaultKind.{FaultKind, TheVariants.{Count, Check}}, Hexadecimal.hex_bytes_of}
+use Rattle.text_scan.proofs.{PlainWords.encoded_pass, FirstLine.lines-line}
+use mathlib.Core.List.{reverse_aux}
+
+-- A record that was written is read.
+
+-- Upper-case digits, and a line of them.
+
+-- digits and the colon lie behind CR and LF
+abbrev pub Behind : List ℕ → Type 0
+Behind line = (k : ℕ) → k < length line → 48 ≤ get_or line k 0
+
+behind-cons : (first : ℕ) (rest : List ℕ) → 48 ≤ first → Behind rest → Behind (first ∷ rest)
+behind-cons first rest here there zero within = here
+behind-cons first rest here there (suc k) within = there k (omega (arith, within))
+
+pub behind-encoded : (bytes : List ℕ) → IsBytes bytes → Behind (encode_with upper_digits bytes)
+behind-encoded bytes fits =
+    λ k within. leb-true 48 (get_or (encode_with upper_digits bytes) k 0)
+    (AllPass-from_list_all (nat_le 48) (encode_with upper_digits bytes)
+    (encoded_pass upper_digits (nat_le 48) refl refl bytes fits) k 0 within)
+
+pub behind-line : (digits : List ℕ) → Behind digits → Behind (58 ∷ digits)
+behind-line digits rest = behind-cons 58 digits (omega arith) rest
+
+pub hexdigits-encoded : (bytes : List ℕ) → IsBytes bytes
+    → list_all is_ascii_hexdigit (encode_with upper_digits bytes) ≡ true
+hexdigits-encoded bytes fits = encoded_pass upper_digits is_ascii_hexdigit refl refl bytes fits
+
+-- such a line, ended by LF, is the first line of a text
+pub lines-behind : (line rest : List ℕ) → 0 < length line → Behind line
+    → lines (line ++ (10 ∷ rest)) ≡ line ∷ lines rest
+lines-behind line rest some behind = lines-line line rest some
+    (λ k within. omega (arith, behind k within))
+
+-- the line of a record, without its end
+abbrev pub record_line : List ℕ → List ℕ
+record_line bytes = 58 ∷ encode_upper bytes
+
+pub record_in-line : (bytes : List ℕ) → IsBytes bytes
+    → record_in (record_line bytes) ≡ record_of_bytes bytes
+record_in-line bytes fits =
+    let digits : List ℕ = encode_upper bytes in
+    let twice : length digits ≡ 2 * length bytes = length-encode_with upper_digits bytes in
+    let half : length digits / 2 ≡ length bytes = omega arith in
+    let decodes : decode_sized digits (length bytes) ≡ Ok bytes =
+    decode_sized-twice digits (length bytes) twice ∙ decode_of-encode_upper bytes fits in
+    ap (λ (n : ℕ). record_or_fault (hex_bytes_of n digits)) half
+    ∙ rw (hexdigits-encoded bytes fits, decodes) refl
+
+-- the bytes of a record that is written
+abbrev pub written_bytes : ℕ → List ℕ → List ℕ
+written_bytes address bytes = data_record address bytes ++ check_of (data_record address bytes) ∷ []
+
+sums_to_0 : (bytes : List ℕ) → sum (bytes ++ check_of bytes ∷ []) % 256 ≡ 0
+sums_to_0 bytes = omega (arith, sum_by-append (λ (x : ℕ). x) bytes (check_of bytes ∷ []))
+
+passes : (counts sums : Bool) (answer : Result Meaning FaultKind) → counts ≡ true → sums ≡ true
+    → cond counts (cond sums answer (Err Check)) (Err Count) ≡ answer
+passes counts sums answer x y = rw (x, y) refl
+
+pub record_of_bytes-written : (address : ℕ) (bytes : List ℕ)
+    → record_of_bytes (written_bytes address bytes) ≡ Ok (Places address bytes)
+record_of_bytes-written address bytes =
+    let check : ℕ = check_of (data_record address bytes) in
+    let all : List ℕ = written_bytes address bytes in
+    let counts = eq-eqb (length all) (length bytes + 5)
+    (omega (arith, length-append bytes (check ∷ []))) in
+    let sums = eq-eqb (sum all % 256) 0 (sums_to_0 (data_record address bytes)) in
+    let place : big_endian (drop 1 all) ≡ address = omega arith in
+    let data_bytes : take (length bytes) (drop 4 all)
+    ≡ bytes = take-append_seam bytes (check ∷ []) in
+    passes (eqb (length all) (length bytes + 5)) (eqb (sum all % 256) 0)
+    (record_of_type 0 (big_endian (drop 1 all)) (take (length bytes) (drop 4 all))) counts sums
+    ∙ ap (λ (n : ℕ). Ok (Places n (take (length bytes) (drop 4 all)))) place
+    ∙ ap (λ (items : List ℕ). Ok (Places address items)) data_bytes
+
+IsBytes-cons : (byte : ℕ) (bytes : List ℕ) → byte < 256 → IsBytes bytes → IsBytes (byte ∷ bytes)
+IsBytes-cons byte bytes small fits zero = small
+IsBytes-cons byte bytes small fits (suc i) = fits i
+
+IsBytes-end : (bytes : List ℕ) (last : ℕ) → last < 256 → IsBytes bytes
+    → IsBytes (bytes ++ last ∷ [])
+IsBytes-end [] last small fits = IsBytes-cons last [] small (λ i. omega arith)
+IsBytes-end (byte ∷ bytes) last small fits =
+    IsBytes-cons byte (bytes ++ last ∷ []) (fits 0) (IsBytes-end bytes last small
+    (λ i. fits (suc i)))
+
+pub IsBytes-written : (address : ℕ) (bytes : List ℕ) → address < 65536 → length bytes < 256
+    → IsBytes bytes → IsBytes (written_bytes address bytes)
+IsBytes-written address bytes small short fits =
+    let high : address / 256 < 256 = omega arith in
+    let low : address % 256 < 256 = omega arith in
+    let zero_fits : 0 < 256 = omega arith in
+    let check : check_of (data_record address bytes) < 256 = omega arith in
+    IsBytes-end (data_record address bytes) (check_of (data_record address bytes)) check
+    (IsBytes-cons (length bytes) (address / 256 ∷ address % 256 ∷ 0 ∷ bytes) short
+    (IsBytes-cons (address / 256) (address % 256 ∷ 0 ∷ bytes) high
+    (IsBytes-cons (address % 256) (0 ∷ bytes) low (IsBytes-cons 0 bytes zero_fits fits))))
 
 -- the line of the record that begins at a place, without its end
 abbrev line_text : (ℕ → Option ℕ) → ℕ → List ℕ

@@ -1,7 +1,26 @@
 -- Where files and input are told, and no file is refused or failed.
-use Rattle.std.proofs.Common.{◌≡◌, ℕ, List, Option, Some, None, IfSome, refl, inl, inr, subst}
-use Rattle.input_files.specs.{declared.status.Status.{Status, TheVariants.Memory}, Reading.{Files, IsFailure, IsRefusal, Refuses, first_refusal}, Row.RowOf}
-use Rattle.input_files.proofs.Refused.{failed-counted}
+use Rattle.std.proofs.Common.{◌≡◌, ℕ, List, Option, Some, None, IfSome, refl, inl, inr, subst, rules}
+use Rattle.input_files.specs.{declared.{status.Status.{Status, TheVariants.{Memory, ReadFault, Spent, Words}}, refusal.Refusal.Refusal}, Reading.{Files, IsFailure, IsRefusal, Refuses, first_refusal}, Row.RowOf, Status.status_of_refusal}
+
+-- What a refusal is not, and what it counts.
+
+-- files that were refused have not spent the input
+pub refused-spent : (refusal : Refusal) → status_of_refusal refusal ≡ Spent → ⊥
+refused-spent = search rules
+
+pub refused-words : {Outcome : Type 0} (files : Files) (missed failed : Type 0)
+    (row : RowOf Outcome) → IsRefusal files missed failed row Words → ⊥
+refused-words files missed failed row (inl miss) = cc miss.0
+refused-words files missed failed row (inr (inl fails)) = cc fails.0
+refused-words files missed failed row (inr (inr (inl memory))) = cc memory
+refused-words files missed failed row (inr (inr (inr (fault, is, reaches)))) = cc is
+
+pub failed-counted : {Outcome : Type 0} (files : Files) (missed failed : Type 0)
+    (row : RowOf Outcome) → IsRefusal files missed failed row ReadFault → failed
+failed-counted files missed failed row (inl miss) = absurd (cc miss.0)
+failed-counted files missed failed row (inr (inl fails)) = fails.1
+failed-counted files missed failed row (inr (inr (inl memory))) = absurd (cc memory)
+failed-counted files missed failed row (inr (inr (inr (fault, is, reaches)))) = absurd (cc is)
 
 -- what holds there of an input of few bytes
 abbrev pub HoldsIfTold : {Outcome : Type 0} → Files → Option (List ℕ) → RowOf Outcome

@@ -1,14 +1,52 @@
 -- The digests of one call under SHA-256, computed once and looked up from then on.
-use Rattle.std.proofs.Common.{◌≡◌, ◌∙◌, ℕ, zero, suc, ◌/◌, ◌%◌, Bool, true, false, List, [], ◌∷◌, ◌++◌, map, replicate, refl, ap}
-use Rattle.std.specs.Prelude.{if◌then◌else◌}
-use Rattle.std.specs.Str.{bytes_eq}
-use Rattle.std.proofs.lemmas.Slice.Eq.{bytes_eq-Decides}
-use Rattle.sha2.specs.Sha256.{digest_bytes, first_words, rounds, sha256}
+use Rattle.std.proofs.{Common.{◌≡◌, ◌∙◌, ℕ, zero, suc, ◌/◌, ◌%◌, Bool, true, false, List, [], ◌∷◌, ◌++◌, map, replicate, refl, ap, ◌+◌, ◌*◌, length, take, drop}, lemmas.Slice.Eq.bytes_eq-Decides}
+use Rattle.std.specs.{Prelude.if◌then◌else◌, Str.bytes_eq}
+use Rattle.sha2.specs.Sha256.{digest_bytes, first_words, rounds, sha256, add_state, compress, hash_after, initial_hash_256, next_word, padded_message, schedule}
 use Rattle.device_types.specs.Address.{Bytes}
 use Rattle.part_definitions.specs.{Attestation.bytes_of_words, Hmac.{Digest, block_of, with_mask}}
 use Rattle.device_trace.specs.Example.{upwards}
 use Rattle.key_isolation.specs.AttestedPlay.{token_words}
-use Rattle.key_isolation.proofs.Sha256Computed.{computed, sha256-computed, state_after, words_of}
+
+-- SHA-256 so that it can be computed: the words of a block are made once from those before them.
+
+abbrev extended : List ℕ → ℕ → List ℕ
+extended words t = words ++ next_word words t ∷ []
+
+unfoldable pub words_of : List ℕ → ℕ → List ℕ
+words_of block zero = first_words block 16
+words_of block (suc n) = extended (words_of block n) (n + 16)
+
+schedule-words : (block : List ℕ) (n : ℕ) → schedule block n ≡ words_of block n
+unfolding schedule words_of
+schedule-words block zero = refl
+schedule-words block (suc n) =
+    ap (λ (words : List ℕ). words ++ next_word words (n + 16) ∷ []) (schedule-words block n)
+
+unfoldable pub state_after : List ℕ → List ℕ → ℕ → List ℕ
+state_after state bytes zero = state
+state_after state bytes (suc n) =
+    let before : List ℕ = state_after state bytes n in
+    add_state before (rounds before (words_of (take 64 (drop (n * 64) bytes)) 48) 64)
+
+hash-state : (state bytes : List ℕ) (n : ℕ)
+    → hash_after state bytes n ≡ state_after state bytes n
+unfolding hash_after compress state_after
+hash-state state bytes zero = refl
+hash-state state bytes (suc n) =
+    λ i. add_state (hash-state state bytes n i)
+    (rounds (hash-state state bytes n i) (schedule-words (take 64 (drop (n * 64) bytes)) 48 i) 64)
+
+unfoldable pub computed : List ℕ → List ℕ
+computed message =
+    digest_bytes
+    (state_after initial_hash_256 (padded_message message) (length (padded_message message) / 64))
+    8
+
+pub sha256-computed : (message : List ℕ) → sha256 message ≡ computed message
+unfolding sha256 computed
+sha256-computed message =
+    ap (λ (state : List ℕ). digest_bytes state 8)
+    (hash-state initial_hash_256 (padded_message message) (length (padded_message message) / 64))
 
 -- a number's bytes, so many, the highest first, before these
 abbrev bytes_before : ℕ → ℕ → Bytes → Bytes

@@ -3,7 +3,7 @@ use Rattle.std.proofs.Common.{◌≡◌, ℕ, List, [], ◌∷◌, ◌++◌, ref
 use Rattle.device_types.specs.declared.event.Event.{Event}
 use Rattle.device_trace.specs.{Trace.{Play, next_logs, logs_after, trace}, Blank.blank, Logs.{Logs, with_events, with_record}, Start.Start, Step.next_record}
 use Rattle.trace_facts.proofs.SoundPlay.{logs_after-sound}
-use Rattle.key_isolation.proofs.{Hiding.{open_start, hide}, LogsBlank.step_hides, Projections.released_words_after-more}
+use Rattle.key_isolation.proofs.{Hiding.{open_start, hide}, LogsBlank.{step_hides, released_words_after-more}}
 
 pub record PlayHides (start : Start) (free : List ℕ) (play : Play) : Type 0 where
   pub history : blank (trace start play) ≡ trace (open_start free start) play

@@ -1,11 +1,71 @@
 -- The logs after a step without the key are the real ones, hidden.
-use Rattle.std.proofs.Common.{◌≡◌, ℕ, Bool, List, ◌∷◌, ◌++◌, Option, Some, None, map, refl, ap, ◌∙◌}
-use Rattle.device_types.specs.{declared.{access.Access.Access, bus_record.BusRecord.BusRecord, event.Event.Event, rule.Rule.Rule}, ExecFlag.last_pc}
-use Rattle.part_definitions.specs.FirstRule.{first_rule}
-use Rattle.device_trace.specs.{Blank.{blank_access, blank_value, blank_record, blank_seen}, AccessesAreFormed.AccessesAreFormed, Progress.{level_after, Progress, last_registers, next_progress}, Logs.{Logs, step_progress, peripherals_after, progress_after, released_words_after, with_events, with_record}, Signals.{value_read, step_kind, proposed_access, signals_at, signals_of}, Start.Start, Step.{access_recorded, dma_value_read, record_from, record_of, asks_reset, next_record}, Trace.next_logs}
+use Rattle.std.proofs.{Common.{◌≡◌, ℕ, Bool, List, ◌∷◌, ◌++◌, Option, Some, None, map, refl, ap, ◌∙◌, [], sym, arith, append-nil, inl, inr}, lemmas.Bool.{cond-true, cond-false, cases_Bool, Decides.nat_tests}}
+use Rattle.device_types.specs.{declared.{access.Access.{Access, TheVariants.{Fetch, Read, Write}}, bus_record.BusRecord.BusRecord, event.Event.Event, rule.Rule.Rule, kind.Kind.{Kind, TheVariants.{Boot, Cpu, Idle, Irq, Rom}}}, ExecFlag.last_pc, Map.{lies_in, touches, stack_region, mac_region}}
+use Rattle.part_definitions.specs.{FirstRule.first_rule, Serial.byte_sent}
+use Rattle.device_trace.specs.{Blank.{blank_access, blank_value, blank_record, blank_seen}, AccessesAreFormed.AccessesAreFormed, Progress.{level_after, Progress, last_registers, next_progress}, Logs.{Logs, step_progress, peripherals_after, progress_after, released_words_after, with_events, with_record, with_released_word}, Signals.{value_read, step_kind, proposed_access, signals_at, signals_of}, Start.Start, Step.{access_recorded, dma_value_read, record_from, record_of, asks_reset, next_record}, Trace.next_logs, Peripherals.{Peripherals, with_step}, Text.byte_sent_by}
 use Rattle.device_trace.proofs.FormedAccess.{record_of-formed}
 use Rattle.trace_facts.proofs.Sound.{IsSound}
-use Rattle.key_isolation.proofs.{Hiding.{open_start, hide_progress, hide, vector_of-hide, step_progress-hide, vector_taken-hide, logged_bounds-hide, level_after-hide, decision_after-hide}, WrittenBytes.memory_after-hide, Projections.{with_step-blank, released_words_after-blank}, RecordBlank.{SameWithoutRule, unrefused_same, record_of-hide}}
+use Rattle.key_isolation.proofs.{Hiding.{open_start, hide_progress, hide, vector_of-hide, step_progress-hide, vector_taken-hide, logged_bounds-hide, level_after-hide, decision_after-hide}, Bytes.memory_after-hide, RecordBlank.{SameWithoutRule, unrefused_same, record_of-hide}}
+use Rattle.std.specs.Prelude.{if◌then◌else◌}
+use Rattle.word_arith.specs.declared.size.Size.{Size}
+
+-- What a blanked access is to the peripherals, and what it releases.
+
+-- what a peripheral takes of a step lies outside the secrets, where the value that the DMA engine
+-- takes does
+pub with_step-blank : (rule : Option Rule) (acceptance : Option ℕ) (cpu dma : Option Access)
+    (value value' : ℕ) (parts : Peripherals)
+    → (rule ≡ None → value' ≡ value)
+    → with_step rule acceptance (blank_access cpu) (blank_access dma) value' parts
+    ≡ with_step rule acceptance cpu dma value parts
+with_step-blank rule acceptance cpu dma value value' parts same = grind (arith, nat_tests)
+
+with_released_word-blank : (access : Option Access) (words : List ℕ)
+    → with_released_word (blank_access access) words ≡ with_released_word access words
+with_released_word-blank access words = grind (arith, nat_tests)
+
+pub released_words_after-blank : (rule : Option Rule) (kind : Kind) (access : Option Access)
+    (words : List ℕ)
+    → released_words_after rule kind (blank_access access) words
+    ≡ released_words_after rule kind access words
+released_words_after-blank rule kind access words = grind (arith, with_released_word-blank)
+
+-- only more words are released
+with_released_word-more : (access : Option Access) (words : List ℕ)
+    → (more : List ℕ) × (with_released_word access words ≡ words ++ more)
+with_released_word-more None words = ([], sym (append-nil words))
+with_released_word-more (Some (Fetch place)) words = ([], sym (append-nil words))
+with_released_word-more (Some (Read place size)) words = ([], sym (append-nil words))
+with_released_word-more (Some (Write place size number)) words =
+    elim (cases_Bool (lies_in mac_region place)) [
+      | inl within ↦
+          (number ∷ [], cond-true (lies_in mac_region place) (words ++ number ∷ []) words within)
+      | inr outside ↦ (
+        [],
+        cond-false (lies_in mac_region place) (words ++ number ∷ []) words outside
+            ∙ sym (append-nil words),
+      )
+    ]
+
+pub released_words_after-more : (rule : Option Rule) (kind : Kind) (access : Option Access)
+    (words : List ℕ)
+    → (more : List ℕ) × (released_words_after rule kind access words ≡ words ++ more)
+released_words_after-more None Boot access words = ([], sym (append-nil words))
+released_words_after-more None Cpu access words = ([], sym (append-nil words))
+released_words_after-more None Idle access words = ([], sym (append-nil words))
+released_words_after-more None Irq access words = ([], sym (append-nil words))
+released_words_after-more None Rom access words = with_released_word-more access words
+released_words_after-more (Some rule) kind access words = ([], sym (append-nil words))
+
+-- the byte that a step sends
+byte_sent-blank : (place : ℕ) (size : Size) (number : ℕ)
+    → byte_sent place size (if touches (Read place size) stack_region then 0 else number)
+    ≡ byte_sent place size number
+byte_sent-blank place size number = grind (arith, nat_tests)
+
+pub byte_sent_by-blank : (rule : Option Rule) (access : Option Access)
+    → byte_sent_by rule (blank_access access) ≡ byte_sent_by rule access
+byte_sent_by-blank rule access = grind (arith, byte_sent-blank)
 
 -- what the logs need of a record
 pub record FollowsBlank (logs : Logs) (entry : BusRecord) : Type 0 where

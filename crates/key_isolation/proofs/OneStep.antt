@@ -8,7 +8,7 @@ use Rattle.device_types.specs.{declared.{access.Access.{Access, TheVariants.{Fet
 use Rattle.part_definitions.specs.{Attestation.{CallItem, KeyRead, MetadataRead, KeptRead, KeptWrite, DecisionWrite, DerivedKeyWrite, RegionRead, InnerDigestWrite, MacWrite, ReturnRead, region_words, decision_read, call_item, item_access, item_pc, is_return, bounds_read}, CpuRegister.sp_of, CpuState.{CpuState, cpu_pc}, MonitorRule.in_rom}
 use Rattle.device_trace.specs.{Blank.{touches_secrets, blank_access, blank_value}, Logs.{Logs, with_released_word, released_words_after}, Progress.{Progress, Held, Runs, InCall, next_pc_of, running_access, access_of, after_return, call_after, next_progress}, Signals.value_read, Start.{Start, mac_word}}
 use Rattle.key_isolation.proofs.{Bytes.zero_either, HiddenWords.{hides_word, hidden_word, rest_shown, hide_words, call_item-hide, hide_words-more}, Hiding.{open_start, hide_progress, hide}, Reading.value_read-hide, SignalShape.item_access-hide, CallStep.same_item}
-use Rattle.trace_facts.proofs.{Choices.first_false, Sound.IsWithin, CallPlaces.{ItemFits, item_after-fits}}
+use Rattle.trace_facts.proofs.{ExecFlag.first_false, Sound.IsWithin, CallPlaces.{ItemFits, item_after-fits}}
 
 -- the rules K1, K2 and A4, of an access and its `pc`
 pub record KeepsSecrets (access : Option Access) (pc : ℕ) : Type 0 where

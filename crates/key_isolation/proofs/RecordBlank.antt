@@ -1,11 +1,63 @@
 -- The record of a step without the key is the real one, blanked.
-use Rattle.std.proofs.Common.{◌≡◌, ℕ, Bool, List, ◌++◌, length, Option, Some, None, refl, ap, sym, ◌∙◌, subst}
-use Rattle.device_types.specs.{declared.{access.Access.{Access, TheVariants.{Fetch, Read, Write}}, kind.Kind.Kind, rule.Rule.Rule, signals.Signals.Signals}, Access.without_number, Map.{touches, stack_region}, ExecFlag.last_pc}
-use Rattle.part_definitions.specs.{Dma.dma_access, FirstRule.first_rule}
-use Rattle.device_trace.specs.{Blank.{touches_secrets, blank_access, blank_value, blank_record}, Logs.{Logs, step_progress, vector_of, released_words_after}, Progress.{Progress, last_registers, next_pc_of, access_of, next_progress}, Signals.{value_read, step_kind, proposed_access, signals_at, signals_of}, Start.Start, Step.{dma_value_read, record_from, record_of}}
+use Rattle.std.proofs.{Common.{◌≡◌, ℕ, Bool, List, ◌++◌, length, Option, Some, None, refl, ap, sym, ◌∙◌, subst, false, IfSome, map}, lemmas.Bool.{cond-false, or_from}}
+use Rattle.device_types.specs.{declared.{access.Access.{Access, TheVariants.{Fetch, Read, Write}}, kind.Kind.Kind, rule.Rule.Rule, signals.Signals.Signals}, Access.{without_number, IsFormed}, Map.{touches, stack_region, some_touches, key_region}, ExecFlag.last_pc}
+use Rattle.part_definitions.specs.{Dma.dma_access, FirstRule.first_rule, Memory.{byte_at, with_access, memory_read}}
+use Rattle.device_trace.specs.{Blank.{touches_secrets, blank_access, blank_value, blank_record, SameOutside}, Logs.{Logs, step_progress, vector_of, released_words_after, flags_of}, Progress.{Progress, last_registers, next_pc_of, access_of, next_progress}, Signals.{value_read, step_kind, proposed_access, signals_at, signals_of}, Start.Start, Step.{dma_value_read, record_from, record_of}}
 use Rattle.device_trace.proofs.FormedAccess.{access_of-formed}
-use Rattle.key_isolation.proofs.{Bytes.zero_either, Hiding.{open_start, hide_progress, hide, last_registers-hide, step_kind-hide, step_progress-hide}, SameRule.{SameSignals, first_rule-same}, SignalShape.signals_of-hide, OneStep.{KeepsSecrets, SameStep, step_same}, DmaStep.{dma_same, written-outside}}
+use Rattle.key_isolation.proofs.{Bytes.{zero_either, hide_write, keyless, byte_at-hide, with_access-hide}, Hiding.{open_start, hide_progress, hide, last_registers-hide, step_kind-hide, step_progress-hide, flags_of-hide}, SameRule.{SameSignals, first_rule-same}, SignalShape.signals_of-hide, OneStep.{KeepsSecrets, SameStep, step_same}, Numbers.number_at-outside}
 use Rattle.trace_facts.proofs.{BreaksNoRule.{BreaksNoRule, first_rule-none}, Sound.{IsSound, progress_within-right}, BlankRecords.last_pc-blank}
+use Rattle.word_arith.specs.declared.size.Size.TheVariants.{Word}
+
+-- What the DMA reads in a step that is not refused: no secret, so the same without the key.
+
+-- an access of the DMA that breaks neither K4 nor K5
+pub record SameDma (left right : ℕ → ℕ) (access : Option Access) : Type 0 where
+  pub same : blank_access access ≡ access
+  pub value : blank_value access (memory_read right access) ≡ memory_read left access
+  pub kept : blank_value access (memory_read right access) ≡ memory_read right access
+
+reads_same : (left right : ℕ → ℕ) (access : Access)
+    → blank_access (Some access) ≡ Some access → touches_secrets access ≡ false
+    → memory_read left (Some access) ≡ memory_read right (Some access)
+    → SameDma left right (Some access)
+reads_same left right access same off answer =
+    let keeps = cond-false (touches_secrets access) 0 (memory_read right (Some access)) off in
+    record { same = same; value = keeps ∙ sym answer; kept = keeps }
+
+pub dma_same : (left right : ℕ → ℕ) → SameOutside left right → (access : Option Access)
+    → some_touches access key_region ≡ false → some_touches access stack_region ≡ false
+    → SameDma left right access
+dma_same left right same None key stack = record { same = refl; value = refl; kept = refl }
+dma_same left right same (Some (Fetch place)) key stack =
+    let off = or_from (touches (Fetch place) key_region)
+    (touches (Fetch place) stack_region) key stack in
+    reads_same left right (Fetch place) refl off (number_at-outside left right same place Word off)
+dma_same left right same (Some (Read place size)) key stack =
+    let off = or_from (touches (Read place size) key_region)
+    (touches (Read place size) stack_region) key stack in
+    reads_same left right (Read place size) refl off
+    (number_at-outside left right same place size off)
+dma_same left right same (Some (Write place size number)) key stack =
+    record {
+      same =
+          ap (λ (n : ℕ). Some (Write place size n))
+          (cond-false (touches (Write place size number) stack_region) 0 number stack);
+      value = zero_either (touches_secrets (Write place size number));
+      kept = zero_either (touches_secrets (Write place size number));
+    }
+
+-- memory with the processor's write of the step
+pub written-outside : (start : Start) (free : List ℕ) (logs : Logs) (real view : Option Access)
+    → IfSome real IsFormed → blank_access real ≡ view
+    → SameOutside
+    (byte_at (keyless start.power) (flags_of (open_start free start) (hide logs))
+    (with_access view (map hide_write logs.memory)))
+    (byte_at start.power (flags_of start logs) (with_access real logs.memory))
+written-outside start free logs real view is_formed same place off =
+    let writes = (λ i. with_access (sym same i) (map hide_write logs.memory))
+    ∙ with_access-hide real logs.memory is_formed in
+    (λ i. byte_at (keyless start.power) (flags_of-hide start free logs i) (writes i) place)
+    ∙ byte_at-hide start.power (flags_of start logs) (with_access real logs.memory) place off
 
 -- accesses and values of two records
 pub record SameNumbers (now view : Signals) (read read' dma_read dma_read' : ℕ) : Type 0 where

@@ -8,7 +8,7 @@ use Rattle.part_definitions.specs.{Memory.bytes_from, Metadata.little_endian, Re
 use Rattle.printed_lines.specs.Line.{end_line, sent_line, reset_line, report_line, denied_line}
 use Rattle.device_trace.specs.{Trace.{Play, next_logs, logs_after}, Blank.{is_secret, SameOutside, blank_record}, Logs.{Logs, logged_byte, logged_bounds}, Start.Start, Step.next_record, Text.{reported_output, report_of, report_where, denial_in, some_line, step_lines, lines_of, end_line_after, play_text}}
 use Rattle.trace_facts.proofs.SoundPlay.{logs_after-sound}
-use Rattle.key_isolation.proofs.{Bytes.same_if, FlagBlank.exec-blank, Hiding.{open_start, hide, next_pc_of-hide, flags_of-hide, logged_byte-hide, logged_bounds-hide}, Induction.{play_hides, releases_before}, LogsBlank.step_hides, Projections.byte_sent_by-blank}
+use Rattle.key_isolation.proofs.{Bytes.same_if, FlagBlank.exec-blank, Hiding.{open_start, hide, next_pc_of-hide, flags_of-hide, logged_byte-hide, logged_bounds-hide}, Induction.{play_hides, releases_before}, LogsBlank.{step_hides, byte_sent_by-blank}}
 
 -- bytes of a range with no secret
 bytes_from-outside : (left right : ℕ → ℕ) → SameOutside left right → (place count : ℕ)

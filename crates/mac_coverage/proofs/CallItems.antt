@@ -6,7 +6,7 @@ use Rattle.std.proofs.lemmas.Bool.Decides.{nat_tests}
 use Rattle.device_types.specs.Map.{ROM_ENTRY, ROM_BODY, ROM_EXIT}
 use Rattle.part_definitions.specs.{Attestation.{CallItem, KeyRead, MetadataRead, KeptRead, KeptWrite, DecisionWrite, DerivedKeyWrite, RegionRead, InnerDigestWrite, MacWrite, ReturnRead, item_pc, is_return}, Request.ATTESTS}
 use Rattle.part_definitions.proofs.CallItems.{item_after, item_after-is}
-use Rattle.trace_facts.proofs.ItemNumbers.{IsItemAt, item_after-at}
+use Rattle.trace_facts.proofs.CallPlaces.{IsItemAt, item_after-at}
 
 -- items from their numbers
 pub key_item : (region decision i : ℕ) → i < 32 → item_after region decision i ≡ KeyRead i

@@ -6,7 +6,7 @@ use Rattle.std.proofs.lemmas.Bool.Decides.{nat_tests}
 use Rattle.word_arith.specs.declared.size.Size.TheVariants.{Word}
 use Rattle.device_types.specs.declared.access.Access.{Access}
 use Rattle.part_definitions.specs.{BusAccess.write_at, Attestation.word_of_bytes, Memory.{MemoryWrite, PowerOn, ShownFlags, byte_at, first_byte, is_flag_word, takes_write, with_access}, Metadata.kept_bytes}
-use Rattle.trace_facts.proofs.MissedPlace.{MissesPlace, last_written-missed}
+use Rattle.trace_facts.proofs.BoundsStay.{MissesPlace, last_written-missed}
 use Rattle.mac_coverage.specs.Coverage.{kept_within}
 use Rattle.mac_coverage.proofs.WordPlan.{IsCounter}
 

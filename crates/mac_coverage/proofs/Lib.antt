@@ -2,7 +2,6 @@ pub mod Words
 pub mod CallItems
 pub mod ValidPlaces
 pub mod MemoryKept
-pub mod MemoryBytes
 pub mod ExecKept
 pub mod WordPlan
 pub mod AttestedIs
@@ -14,5 +13,4 @@ pub mod Steps
 pub mod Calls
 pub mod PlaySteps
 pub mod Covers
-pub mod Outcomes
 pub mod Plays

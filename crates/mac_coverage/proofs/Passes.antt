@@ -10,7 +10,7 @@ use Rattle.part_definitions.specs.{BusAccess.{read_at, write_at}, Attestation.{C
 use Rattle.device_trace.specs.{Logs.{Logs, logged_byte, with_released_word}, Signals.value_read}
 use Rattle.mac_coverage.specs.{AttestedBytes.{AttestedBytes, attested_bytes_in}, Coverage.kept_within}
 use Rattle.mac_coverage.proofs.{AttestedIs.{IsWordAt, bounds-attested, rest-word}, Device.{start_of, key_word-read, word-read}, KeptStored.{high-put, kept-early, kept-late, kept-missed, low-put, word-misses}, MacStored.{MacStands, mac-more}, WordPlan.{ArePlanned, IsAttested, IsCounter, Plan, attested_bounds, attested_words, bounds_read-planned, counter_word-planned, decision_in-planned, first_mac_words, first_mac_words-more, planned_counter, planned_counter-is, planned_decision, planned_item, planned_region, planned_tag, tag_in-planned}, Words.{AreBytes, word-bytes_from}}
-use Rattle.trace_facts.proofs.{CallPlaces.mac_place, ItemNumbers.IsItemAt, MissedPlace.MissesPlace}
+use Rattle.trace_facts.proofs.{CallPlaces.{mac_place, IsItemAt}, BoundsStay.MissesPlace}
 
 -- how many words of the MAC are written when so many words passed
 abbrev pub mac_count : Plan → ℕ → ℕ

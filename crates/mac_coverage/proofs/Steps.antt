@@ -5,7 +5,7 @@ use Rattle.std.proofs.lemmas.Bool.{and_from, cond-true}
 use Rattle.device_types.specs.{declared.{access.Access.Access, bus_record.BusRecord.BusRecord, kind.Kind.{Kind, TheVariants.{Boot, Cpu, Idle, Irq, Rom}}, rule.Rule.Rule, signals.Signals.Signals}, Access.some_writes, Kind.is_rom, Map.ROM_ENTRY, ExecFlag.{SeenRecord, last_pc}}
 use Rattle.part_definitions.specs.{Attestation.{call_item, word_passed}, CpuState.{Boundary, Executing, Entering}, FirstRule.first_rule, Memory.{MemoryWrite, ShownFlags, byte_at, is_flag_word, with_access}, MonitorRule.{in_rom, is_written_by_rom, leaves_stack_and_mac}}
 use Rattle.device_trace.specs.{Blank.blank_seen, Logs.{Logs, aux_of, exec_of, flags_of, goes_on_in_call, logged_bounds, logged_byte, memory_after, progress_after, records_until_call, step_progress, with_record}, Progress.{Progress, Held, Runs, InCall, access_of, call_access, call_after, kind_of, last_registers, next_pc_of, next_progress, progress_from_boundary, progress_within}, Signals.{signals_at, signals_of, step_kind, value_read}, Start.Start, Step.{dma_value_read, record_from, record_of}}
-use Rattle.trace_facts.proofs.{ExecFlag.LogsAreValid, NeverBroken.item_pc-in_rom, Choices.{other_false, none_there}, BreaksNoRule.{BreaksNoRule, first_rule-none}}
+use Rattle.trace_facts.proofs.{ExecFlag.{LogsAreValid, other_false, none_there}, NeverBroken.item_pc-in_rom, BreaksNoRule.{BreaksNoRule, first_rule-none}}
 use Rattle.mac_coverage.proofs.{ExecKept.{IsRomStep, exec-rom_step}, MemoryKept.{AreAlike, byte_at-kept, byte_at-off_flags}}
 
 -- a step of the ROM is within a call, which went on or begins

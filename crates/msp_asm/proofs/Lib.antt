@@ -9,7 +9,5 @@ pub mod PlacesLeft
 pub mod FirstPassMore
 pub mod LinesSoFar
 pub mod SecondPassMore
-pub mod FreePlaces
-pub mod BytesStay
 pub mod HasBytes
 pub mod NextLines

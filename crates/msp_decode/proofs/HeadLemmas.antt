@@ -1,10 +1,59 @@
 -- The head that is computed from a word is the one that the word spells.
-use Rattle.std.proofs.Common.{◌≡◌, ℕ, ◌<◌, ◌≤◌, ◌/◌, ◌%◌, ◌^◌, ◌↔◌, ℤ, Bool, true, false, refl, ap, sym, ◌∙◌, subst, arith, Option, Some, None, if◌then◌else◌}
-use Rattle.std.specs.Prelude.{IsTrue}
-use Rattle.std.proofs.lemmas.Bool.Decides.{nat_tests}
-use Rattle.word_arith.specs.{declared.{size.Size.Size, op2.Op2.Op2}}
-use Rattle.msp_decode.specs.{declared.{one.One.One, cond.Cond.Cond, source_form.SourceForm.SourceForm, dest_form.DestForm.DestForm, head.Head.{Head, TheVariants.{Two, One as OneOperand, Reti, Jump}}}, Table.{op2_number, one_number, cond_number, size_number, source_mode, source_register, dest_mode, dest_register, offset_number}, Spelling.{has_form, has_range, is_legal, word_of, Spells}, Head.{one_head, two_head, jump_head, head_of}, Law.HeadsAreSpelled}
-use Rattle.msp_decode.proofs.{OneHead.{if_legal, one_of_fields, one_head-legal}, WordRange.by_range, TableLemmas.{op2_number-op2_of, op2_of-op2_number, op2_number-lt, op2_number-le, one_number-one_of, one_of-one_number, one_number-lt, cond_number-cond_of, cond_of-cond_number, cond_number-lt, size_number-size_of_bit, size_of_bit-size_number, size_number-lt, source_mode-lt, source_register-lt, source_of-fields, source_mode-source_of, source_register-source_of, has_form-source_of, dest_mode-lt, dest_register-lt, dest_of-fields, dest_mode-dest_of, dest_register-dest_of, offset_number-lt, offset_of-offset_number, offset_number-offset_of, has_range-offset_of}}
+use Rattle.std.proofs.{Common.{◌≡◌, ℕ, ◌<◌, ◌≤◌, ◌/◌, ◌%◌, ◌^◌, ◌↔◌, ℤ, Bool, true, false, refl, ap, sym, ◌∙◌, subst, arith, Option, Some, None, if◌then◌else◌, inl, inr}, lemmas.Bool.Decides.{nat_tests, leb_tells}}
+use Rattle.std.specs.Prelude.{IsTrue, ◌&&◌, ◌||◌, not}
+use Rattle.word_arith.specs.declared.{size.Size.Size, op2.Op2.Op2}
+use Rattle.msp_decode.specs.{declared.{one.One.One, cond.Cond.Cond, source_form.SourceForm.SourceForm, dest_form.DestForm.DestForm, head.Head.{Head, TheVariants.{Two, One as OneOperand, Reti, Jump}}}, Table.{op2_number, one_number, cond_number, size_number, source_mode, source_register, dest_mode, dest_register, offset_number}, Spelling.{has_form, has_range, is_legal, word_of, Spells, has_size, takes_result, writes_operand}, Head.{one_head, two_head, jump_head, head_of}, Law.HeadsAreSpelled, Field.{one_of, size_of_bit, source_of}}
+use Rattle.msp_decode.proofs.TableLemmas.{op2_number-op2_of, op2_of-op2_number, op2_number-lt, op2_number-le, one_number-one_of, one_of-one_number, one_number-lt, cond_number-cond_of, cond_of-cond_number, cond_number-lt, size_number-size_of_bit, size_of_bit-size_number, size_number-lt, source_mode-lt, source_register-lt, source_of-fields, source_mode-source_of, source_register-source_of, has_form-source_of, dest_mode-lt, dest_register-lt, dest_of-fields, dest_mode-dest_of, dest_register-dest_of, offset_number-lt, offset_of-offset_number, offset_number-offset_of, has_range-offset_of}
+
+-- The ranges of words: illegal, of one operand, RETI, illegal again, jumps, of two operands.
+
+-- what holds in each range holds of every word
+pub by_range :
+    (P : ℕ → Type 0) (word : ℕ)
+    → (word < 0x1000 → P word)
+    → (0x1000 ≤ word → word < 0x1300 → P word)
+    → (word ≡ 0x1300 → P word)
+    → (0x1300 < word → word < 0x2000 → P word)
+    → (0x2000 ≤ word → word < 0x4000 → P word)
+    → (0x4000 ≤ word → P word)
+    → P word
+by_range P word low one reti gap jump two = elim (leb_tells 0x1000 word) [
+  | inr below ↦ low below.1
+  | inl above_low ↦ elim (leb_tells 0x1300 word) [
+    | inr below ↦ one above_low.1 below.1
+    | inl above_one ↦ elim (leb_tells 0x1301 word) [
+      | inr below ↦ reti (omega (arith, above_one.1, below.1))
+      | inl above_reti ↦ elim (leb_tells 0x2000 word) [
+        | inr below ↦ gap (omega (arith, above_reti.1)) below.1
+        | inl above_gap ↦ elim (leb_tells 0x4000 word) [
+          | inr below ↦ jump above_gap.1 below.1
+          | inl above_jump ↦ two above_jump.1
+        ]
+      ]
+    ]
+  ]
+]
+
+-- A word of one operand gives the head of its fields, where that is legal.
+
+-- a head, if it is legal
+abbrev pub if_legal : Head → Option Head
+if_legal head = if is_legal head then Some head else None
+
+-- the head of the fields, legal or not
+abbrev pub one_of_fields : ℕ → Head
+one_of_fields word =
+    OneOperand (one_of (word / 0x80 % 8)) (size_of_bit (word / 0x40 % 2))
+    (source_of (word / 0x10 % 4) (word % 16))
+
+pub one_head-legal : (word : ℕ) → one_head word ≡ if_legal (one_of_fields word)
+one_head-legal word =
+    ap (λ (formed : Bool).
+    if formed && has_size (one_of (word / 0x80 % 8)) (size_of_bit (word / 0x40 % 2))
+    && (takes_result (source_of (word / 0x10 % 4) (word % 16))
+    || not (writes_operand (one_of (word / 0x80 % 8))))
+    then Some (one_of_fields word) else None)
+    (sym (has_form-source_of (word / 0x10 % 4) (word % 16) (omega arith) (omega arith)))
 
 -- the word of the head that is read from a word is that word
 two_spelled : (word : ℕ) → 0x4000 ≤ word → word < 0x10000 → Spells word (two_head word)

@@ -1,8 +1,5 @@
-pub mod Pieces
 pub mod CodeBytes
-pub mod ExpectedMetadata
 pub mod PairBytes
-pub mod ComparedBytes
 pub mod Pairs
 pub mod Acceptance
 pub mod PolicyBounds

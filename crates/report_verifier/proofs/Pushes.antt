@@ -1,8 +1,32 @@
 -- Pieces that are put behind one another in an array, where they fit.
-use Rattle.std.proofs.Common.{◌≡◌, ◌≤◌, ◌+◌, ◌-◌, ◌++◌, ◌∙◌, ◌∷◌, [], ℕ, List, length, refl, ap, arith, length-append, append_assoc}
+use Rattle.std.proofs.{Common.{◌≡◌, ◌≤◌, ◌+◌, ◌-◌, ◌++◌, ◌∙◌, ◌∷◌, [], ℕ, List, length, refl, ap, arith, length-append, append_assoc, sym, take}, Math.Seq.take-append_seam}
 use Rattle.part_definitions.specs.{Memory.bytes_from, Region.bytes_between}
-use Rattle.report_verifier.proofs.{CodeBytes.append-byte, Pieces.append-six}
+use Rattle.report_verifier.proofs.CodeBytes.{append-byte}
 use Rattle.part_definitions.proofs.BytesFrom.{length-bytes_from, bytes_between-span}
+
+-- Pieces that are appended one by one, and the first of them.
+
+pub append-three :
+    (all a b c : List ℕ) → ((all ++ a) ++ b) ++ c ≡ all ++ (a ++ (b ++ c))
+append-three all a b c =
+    append_assoc (all ++ a) b c ∙ append_assoc all a (b ++ c)
+
+pub append-six :
+    (all a b c d e f : List ℕ)
+    → (((((all ++ a) ++ b) ++ c) ++ d) ++ e) ++ f ≡ all ++ (a ++ (b ++ (c ++ (d ++ (e ++ f)))))
+append-six all a b c d e f =
+    append-three (((all ++ a) ++ b) ++ c) d e f
+    ∙ append_assoc ((all ++ a) ++ b) c (d ++ (e ++ f))
+    ∙ append-three all a b (c ++ (d ++ (e ++ f)))
+
+take-prefix : (first rest : List ℕ) (n : ℕ) → length first ≡ n → take n (first ++ rest) ≡ first
+take-prefix first rest n is = ap (λ k. take k (first ++ rest)) (sym is)
+    ∙ take-append_seam first rest
+
+pub take-first : (first second third : List ℕ) (n : ℕ) → length first ≡ n
+    → take n ((first ++ second) ++ third) ≡ first
+take-first first second third n is =
+    ap (take n) (append_assoc first second third) ∙ take-prefix first (second ++ third) n is
 
 -- one more piece behind the first ones, whose number of bytes is known
 pushes :

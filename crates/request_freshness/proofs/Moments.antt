@@ -1,16 +1,123 @@
 -- The bytes of the kept counter at the moments of a call, and so what a step does to them.
-use Rattle.std.proofs.Common.{◌≡◌, ℕ, suc, ◌+◌, ◌-◌, ◌<◌, ◌≤◌, Bool, true, false, not, List, [], ◌∷◌, ◌++◌, take, drop, ◌⊎◌, inl, inr, length, refl, ap, sym, ◌∙◌, arith, subst}
-use Rattle.std.specs.Str.{bytes_eq}
-use Rattle.std.specs.Prelude.{◌==◌, is_some, nat_le, IsTrue, if◌then◌else◌}
-use Rattle.std.proofs.lemmas.Bool.{and_from, cases_Bool, cases_lt, cond-false, cond-true, eqb-true, leb-false}
-use Rattle.device_types.specs.{declared.{bus_record.BusRecord.BusRecord, event.Event.Event, kind.Kind.TheVariants.Rom}, Kind.is_rom, Map.ROM_ENTRY, Address.Bytes}
-use Rattle.part_definitions.specs.{Metadata.{counter_in, little_endian, token_in}, Request.{ATTESTS, request_decision, right_token}, Hmac.Digest}
+use Rattle.std.proofs.{Common.{◌≡◌, ℕ, suc, ◌+◌, ◌-◌, ◌<◌, ◌≤◌, Bool, true, false, not, List, [], ◌∷◌, ◌++◌, take, drop, ◌⊎◌, inl, inr, length, refl, ap, sym, ◌∙◌, arith, subst, ◌*◌, ◌/◌, Option, Some, None}, lemmas.Bool.{and_from, cases_Bool, cases_lt, cond-false, cond-true, eqb-true, leb-false, Decides.nat_tests}}
+use Rattle.std.specs.{Str.bytes_eq, Prelude.{◌==◌, is_some, nat_le, IsTrue, if◌then◌else◌, ◌&&◌, ◌||◌}}
+use Rattle.device_types.specs.{declared.{bus_record.BusRecord.BusRecord, event.Event.Event, kind.Kind.{Kind, TheVariants.Rom}, access.Access.{Access, TheVariants.{Fetch, Read, Write}}, rule.Rule.Rule, signals.Signals.Signals}, Kind.is_rom, Map.{ROM_ENTRY, lies_in, some_touches, stack_region}, Address.Bytes, ExecFlag.last_pc}
+use Rattle.part_definitions.specs.{Metadata.{counter_in, little_endian, token_in, kept_bytes}, Request.{ATTESTS, request_decision, right_token}, Hmac.Digest, CpuState.cpu_pc, FirstRule.first_rule, Memory.{MemoryWrite, first_byte, last_written, takes_write, with_access}, MonitorRule.in_rom}
 use Rattle.part_definitions.proofs.CallItems.{first_pc}
-use Rattle.device_trace.specs.{Trace.{Play, logs_after, trace}, Logs.{Logs, step_progress, vector_of, with_events}, Progress.InCall, Signals.step_kind, Step.{asks_reset, next_record}}
-use Rattle.trace_facts.proofs.SoundPlay.{logs_after-sound}
+use Rattle.device_trace.specs.{Trace.{Play, logs_after, trace}, Logs.{Logs, step_progress, vector_of, with_events, logged_byte, memory_after, with_record}, Progress.{InCall, Progress, Held, Runs, access_of, last_registers, next_pc_of}, Signals.{step_kind, signals_at, signals_of, value_read}, Step.{asks_reset, next_record, dma_value_read, record_from, record_of}, Start.Start}
+use Rattle.trace_facts.proofs.{SoundPlay.{logs_after-sound, LogsAreSound, within_unrefused}, BreaksNoRule.{BreaksNoRule, first_rule-none}, ExecFlag.first_false, BoundsStay.{MissesPlace, last_written-missed}, Sound.IsWithin}
 use Rattle.mac_coverage.specs.{AttestedBytes.{AttestedBytes, counter_left, decision_of}, Coverage.{begins_call, ends_in_call, ends_refused, last_call, MacCoversCall, attested_after, before_call, call_length, kept_after, kept_within}}
-use Rattle.mac_coverage.proofs.{Calls.{attested-is, entry_at, log_at}, Device.{Device, start_of}, KeptStored.{kept-early, kept-late}, Plays.{outcome_at, play_stands, rom_kind, call_begun}, PlaySteps.{CallGoesOn, LastWroteHighWord, entry-kind, entry-pc, kept-is, plan_of}, Steps.{IsOfCall, OnCall, rom_step-of_call}, WordPlan.{IsCounter, planned_counter-is}}
-use Rattle.request_freshness.proofs.Untouched.{other_step-leaves, refused_step-leaves}
+use Rattle.mac_coverage.proofs.{Calls.{attested-is, entry_at, log_at}, Device.{Device, start_of}, KeptStored.{kept-early, kept-late, kept-same, takes}, Plays.{outcome_at, play_stands, rom_kind, call_begun}, PlaySteps.{CallGoesOn, LastWroteHighWord, entry-kind, entry-pc, kept-is, plan_of}, Steps.{IsOfCall, OnCall, rom_step-of_call}, WordPlan.{IsCounter, planned_counter-is}}
+use Rattle.word_arith.specs.declared.size.Size.TheVariants.{Byte, Word}
+
+-- A step that is none of a call, or is refused, leaves the kept counter.
+
+-- an access that does not touch the stack
+byte_elsewhere : (place i : ℕ) → i < 4 → (lies_in stack_region place || false) ≡ false
+    → (place == 0x4060 + i) ≡ false
+byte_elsewhere place i within off = grind (arith, nat_tests)
+
+low_elsewhere : (place i : ℕ) → i < 4
+    → (lies_in stack_region place || (lies_in stack_region (place + 1) || false)) ≡ false
+    → (place / 2 * 2 == 0x4060 + i) ≡ false
+low_elsewhere place i within off = grind (arith, nat_tests)
+
+high_elsewhere : (place i : ℕ) → i < 4
+    → (lies_in stack_region place || (lies_in stack_region (place + 1) || false)) ≡ false
+    → (place / 2 * 2 + 1 == 0x4060 + i) ≡ false
+high_elsewhere place i within off = grind (arith, nat_tests)
+
+stack-missed : (access : Option Access) (i : ℕ) → i < 4 → some_touches access stack_region ≡ false
+    → MissesPlace access (0x4060 + i)
+stack-missed None i within off = tt
+stack-missed (Some (Fetch place)) i within off = tt
+stack-missed (Some (Read place size)) i within off = tt
+stack-missed (Some (Write place Byte number)) i within off = byte_elsewhere place i within off
+stack-missed (Some (Write place Word number)) i within off =
+    (low_elsewhere place i within off, high_elsewhere place i within off)
+
+-- one of the processor's code outside the ROM, or of a boot
+code-missed : (start : Start) (releases : ℕ) (kind : Kind) (progress : Progress) (i : ℕ) → i < 4
+    → IsWithin kind progress → is_rom kind ≡ false
+    → (some_touches (access_of start releases kind progress) stack_region
+    && not (in_rom (next_pc_of progress))) ≡ false
+    → MissesPlace (access_of start releases kind progress) (0x4060 + i)
+code-missed start releases kind Held i within fits other right = tt
+code-missed start releases kind (Runs cpu) i within fits other right =
+    stack-missed (access_of start releases kind (Runs cpu)) i within
+    (first_false (some_touches (access_of start releases kind (Runs cpu)) stack_region)
+    (in_rom (cpu_pc cpu)) right fits)
+code-missed start releases kind (InCall regs words) i within fits other right =
+    let wrong : true ≡ false = sym (ap is_rom fits) ∙ other in
+    absurd (cc)
+
+-- the writes of such a step
+abbrev LeavesKept : BusRecord → Type 0
+LeavesKept entry =
+    (writes : List MemoryWrite) (i before : ℕ) → i < 4
+    → last_written (memory_after entry.reset entry.cpu entry.dma writes) (0x4060 + i) before
+    ≡ last_written writes (0x4060 + i) before
+
+from-leaves : (start : Start) (logs : Logs) (reset : Bool) (rule : Option Rule)
+    → LogsAreSound logs → is_rom (step_kind logs) ≡ false
+    → first_rule (last_pc logs.records) (signals_of start logs reset) ≡ rule
+    → LeavesKept
+    (record_from (last_registers logs.progress) (signals_of start logs reset) rule
+    (value_read start logs (signals_of start logs reset).cpu)
+    (dma_value_read start logs (signals_of start logs reset)))
+unfolding signals_at
+from-leaves start logs reset (Some rule) sound other is writes i before within = refl
+from-leaves start logs reset None sound other is writes i before within =
+    let now : Signals = signals_of start logs reset in
+    let breaks_none : BreaksNoRule (last_pc logs.records) now =
+    first_rule-none (last_pc logs.records) now is in
+    let fits : IsWithin (step_kind logs) (step_progress logs (step_kind logs)) =
+    within_unrefused start logs reset sound is in
+    last_written-missed now.dma (with_access now.cpu writes) (0x4060 + i) before
+    (stack-missed now.dma i within breaks_none.key.k5)
+    ∙ last_written-missed now.cpu writes (0x4060 + i) before
+    (code-missed start _ (step_kind logs) (step_progress logs (step_kind logs)) i within fits other
+    breaks_none.key.k2)
+
+record_of-leaves : (start : Start) (logs : Logs) (reset : Bool)
+    → LogsAreSound logs → is_rom (step_kind logs) ≡ false
+    → LeavesKept (record_of start logs reset)
+unfolding record_of
+record_of-leaves start logs reset sound other =
+    from-leaves start logs reset (first_rule (last_pc logs.records) (signals_of start logs reset))
+    sound other refl
+
+refused-leaves : (entry : BusRecord) (rule : Option Rule) → is_some rule ≡ true
+    → LeavesKept (record entry { reset = rule })
+refused-leaves entry None refuses writes i before within = absurd (cc)
+refused-leaves entry (Some rule) refuses writes i before within = refl
+
+-- so the kept counter stays
+kept-left : (start : Start) (logs : Logs) (entry : BusRecord) → LeavesKept entry
+    → kept_bytes (logged_byte start (with_record start logs entry))
+    ≡ kept_bytes (logged_byte start logs)
+unfolding with_record
+kept-left start logs entry leaves =
+    kept-same (logged_byte start (with_record start logs entry)) (logged_byte start logs)
+    (λ i within.
+    cond-true (takes_write (0x4060 + i)) _ _ (takes i within)
+    ∙ (leaves logs.memory i (first_byte start.power (0x4060 + i)) within
+    ∙ sym (cond-true (takes_write (0x4060 + i)) _ _ (takes i within))))
+
+pub other_step-leaves : (start : Start) (logs : Logs) (reset : Bool)
+    → LogsAreSound logs → is_rom (step_kind logs) ≡ false
+    → kept_bytes (logged_byte start (with_record start logs (record_of start logs reset)))
+    ≡ kept_bytes (logged_byte start logs)
+other_step-leaves start logs reset sound other =
+    kept-left start logs (record_of start logs reset)
+    (record_of-leaves start logs reset sound other)
+
+pub refused_step-leaves : (start : Start) (logs : Logs) (entry : BusRecord)
+    → is_some entry.reset ≡ true
+    → kept_bytes (logged_byte start (with_record start logs entry))
+    ≡ kept_bytes (logged_byte start logs)
+refused_step-leaves start logs entry refuses =
+    kept-left start logs entry (refused-leaves entry entry.reset refuses)
 
 -- a request that is attested has a greater counter than the kept one
 abbrev pub choice : Bool → Bool → ℕ

@@ -1,6 +1,5 @@
 pub mod Boundaries
 pub mod SameAnswer
-pub mod SameHits
 pub mod SameSights
 pub mod SameTalk
 pub mod SameWay
@@ -9,10 +8,5 @@ pub mod EarlyEnds
 pub mod FirstStops
 pub mod Sessions
 pub mod ShownPlays
-pub mod StepTexts
 pub mod StepsBack
-pub mod ToldPieces
-pub mod Later
-pub mod SameLiveAnswer
 pub mod SameConversation
-pub mod SameRuns

@@ -1,19 +1,78 @@
 -- What is shown is of the play.
-use Rattle.std.proofs.Common.{◌≡◌, ◌<◌, ◌≤◌, ◌+◌, ◌-◌, ◌%◌, ◌∙◌, ◌++◌, ⊎_elim, ℕ, zero, suc, true, false, List, [], ◌∷◌, Option, Some, None, drop, length, min, slice_index, refl, ap, sym, subst, arith}
-use Rattle.std.specs.Prelude.{◌==◌, codes, if◌then◌else◌}
-use Rattle.std.specs.Fmt.{decimal}
-use Rattle.std.proofs.Math.Nat.{min_comm, sub-add-min_cancel}
-use Rattle.std.proofs.lemmas.Bool.{cases_Bool, cond-false, cond-true, ne_eqb}
+use Rattle.std.proofs.{Common.{◌≡◌, ◌<◌, ◌≤◌, ◌+◌, ◌-◌, ◌%◌, ◌∙◌, ◌++◌, ⊎_elim, ℕ, zero, suc, true, false, List, [], ◌∷◌, Option, Some, None, drop, length, min, slice_index, refl, ap, sym, subst, arith, append_assoc}, Math.Nat.{min_comm, sub-add-min_cancel}, lemmas.{Bool.{cases_Bool, cond-false, cond-true, ne_eqb}, List.append-nil}}
+use Rattle.std.specs.{Prelude.{◌==◌, codes, if◌then◌else◌}, Fmt.decimal}
 use Rattle.hex.specs.Hex.{encode_lower}
 use Rattle.word_arith.specs.declared.size.Size.TheVariants.{Byte}
 use Rattle.device_types.specs.declared.event.Event.{Event}
 use Rattle.device_trace.specs.{Logs.Logs, Trace.{Play, play_of}, Signals.number_read, Start.Start, Text.{end_line_after, lines_of, play_text}}
-use Rattle.trace_files.specs.TraceText.{trace_text}
+use Rattle.trace_files.specs.{TraceText.{trace_text, next_line, trace_lines}, LineText.trace_line, declared.trace_line.TraceLine.TraceLine}
 use Rattle.debug_link.specs.{Console.console, Conversation.Answer, declared.connection.Connection.TheVariants.Open}
-use Rattle.debug_session.specs.{Request.most_steps, Monitor.{flags_text as flags_here, last_lines, texts_from}, Place.{Run, is_shown, logs_at, play_to, sight_at, view_of}, Session.{Session, says}, Shown.{byte_and, bytes_or, bytes_shown, memory_body, registers_shown}, Sight.Sight}
-use Rattle.debug_session.proofs.Views.{view-at}
+use Rattle.debug_session.specs.{Request.most_steps, Monitor.{flags_text as flags_here, last_lines, texts_from}, Place.{Run, is_shown, logs_at, play_to, sight_at, view_of, step_sight}, Session.{Session, says}, Shown.{byte_and, bytes_or, bytes_shown, memory_body, registers_shown}, Sight.{Sight, StepSight, View}}
+use Rattle.debug_session.proofs.Views.{view-at, next-at}
 use Rattle.session_laws.specs.ShownPlay.{AreRead, ShowsPlay, flags_text}
-use Rattle.session_laws.proofs.StepTexts.{length-steps, lines-joined, trace-joined}
+
+-- The texts of a play are those of its steps, joined.
+
+module _ (view : View) (text : StepSight → List ℕ) (whole : ℕ → List ℕ) (last : ℕ)
+    (more : (at : ℕ) → at < last → whole (suc at) ≡ whole at ++ text (view at).next)
+  where
+    joined : (from steps to : ℕ) → to ≡ steps + from → to ≤ last
+        → whole to ≡ whole from ++ texts_from view text from steps
+    joined from zero to same within =
+        let here : to ≡ from = omega (arith, same) in
+        ap whole here ∙ sym (append-nil (whole from))
+    joined from (suc steps) to same within =
+        joined (suc from) steps to (omega (arith, same)) within
+        ∙ ap (λ (front : List ℕ). front ++ texts_from view text (suc from) steps)
+        (more from (omega (arith, same, within)))
+        ∙ append_assoc (whole from) (text (view from).next)
+        (texts_from view text (suc from) steps)
+
+pub length-steps : (events_at : ℕ → List Event) (steps : ℕ)
+    → length (play_of events_at steps) ≡ steps
+length-steps events_at zero = refl
+length-steps events_at (suc steps) = ap suc (length-steps events_at steps)
+
+length-lines : (start : Start) (play : Play) → length (trace_lines start play) ≡ length play
+unfolding trace_lines
+length-lines start [] = refl
+length-lines start (events ∷ play) = ap suc (length-lines start play)
+
+module _ (run : Run) where
+  pub lines-more : (at : ℕ) → at < most_steps
+      → lines_of run.start (play_to run (suc at))
+      ≡ lines_of run.start (play_to run at) ++ (view_of run at).next.lines
+  unfolding lines_of step_sight
+  lines-more at before =
+      ap (λ (step : StepSight). lines_of run.start (play_to run at) ++ step.lines)
+      (sym (next-at run at before))
+
+  line-more : (at : ℕ) → at < most_steps
+      → trace_text run.start (play_to run (suc at))
+      ≡ trace_text run.start (play_to run at) ++ (view_of run at).next.trace_line
+  unfolding trace_lines step_sight logs_at
+  line-more at before =
+      let line : TraceLine = next_line run.start (logs_at run at) (run.events_at at) in
+      let earlier : List ℕ = trace_text run.start (play_to run at) in
+      ap (λ (number : ℕ). earlier ++ trace_line number line)
+      (length-lines run.start (play_to run at) ∙ length-steps run.events_at at)
+      ∙ ap (λ (step : StepSight). earlier ++ step.trace_line) (sym (next-at run at before))
+
+  pub lines-joined : (from steps to : ℕ) → to ≡ steps + from → to ≤ most_steps
+      → lines_of run.start (play_to run to)
+      ≡ lines_of run.start (play_to run from)
+      ++ texts_from (view_of run) (λ step. step.lines) from steps
+  lines-joined =
+      joined (view_of run) (λ step. step.lines)
+      (λ (at : ℕ). lines_of run.start (play_to run at)) most_steps lines-more
+
+  pub trace-joined : (from steps to : ℕ) → to ≡ steps + from → to ≤ most_steps
+      → trace_text run.start (play_to run to)
+      ≡ trace_text run.start (play_to run from)
+      ++ texts_from (view_of run) (λ step. step.trace_line) from steps
+  trace-joined =
+      joined (view_of run) (λ step. step.trace_line)
+      (λ (at : ℕ). trace_text run.start (play_to run at)) most_steps line-more
 
 drop-steps : (events_at : ℕ → List Event) (lines steps : ℕ)
     → drop lines (play_of events_at steps) ≡ play_of events_at (steps - lines)

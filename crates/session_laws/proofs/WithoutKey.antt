@@ -1,18 +1,75 @@
 -- What a debugger reads of a run is the same without the key.
-use Rattle.std.proofs.Common.{◌≡◌, ℕ, zero, suc, ◌%◌, ◌<◌, ◌≤◌, Bool, true, false, List, [], ◌∷◌, ◌++◌, Some, None, inl, inr, refl, ap, sym, ◌∙◌, subst, min, arith, eq-or-lt_of_le}
+use Rattle.std.proofs.{Common.{◌≡◌, ℕ, zero, suc, ◌%◌, ◌<◌, ◌≤◌, Bool, true, false, List, [], ◌∷◌, ◌++◌, Some, None, inl, inr, refl, ap, sym, ◌∙◌, subst, min, arith, eq-or-lt_of_le, Result, Ok, Err, IfOk, ⊎_elim, Option, is_some}, Math.Nat.min-le_left, lemmas.{List.append_cancel_left, Bool.cases_Bool}}
 use Rattle.std.specs.Prelude.{◌||◌, nat_lt, if◌then◌else◌}
-use Rattle.std.proofs.Math.Nat.{min-le_left}
-use Rattle.std.proofs.lemmas.List.{append_cancel_left}
-use Rattle.word_arith.specs.declared.size.Size.TheVariants.{Byte}
-use Rattle.device_types.specs.{declared.{access.Access.TheVariants.Read, bus_record.BusRecord.BusRecord, event.Event.Event}, Access.without_number, Map.{AUX_WORD, EXEC_WORD, key_region, lies_in, stack_region}}
+use Rattle.word_arith.specs.declared.size.Size.{Size, TheVariants.Byte}
+use Rattle.device_types.specs.{declared.{access.Access.{Access, TheVariants.{Read, Fetch, Write}}, bus_record.BusRecord.BusRecord, event.Event.Event, rule.Rule.Rule}, Access.{without_number, places_of}, Map.{AUX_WORD, EXEC_WORD, key_region, lies_in, stack_region}}
 use Rattle.part_definitions.specs.Memory.{ShownFlags}
 use Rattle.printed_lines.specs.Line.{end_line}
-use Rattle.device_trace.specs.{Blank.{blank, blank_record, touches_secrets}, Logs.{Logs, aux_of, exec_of}, Trace.{Play, logs_after, released_words, trace}, Progress.{Progress, Held, Runs, InCall, last_registers, next_pc_of, stands_at_boundary}, Signals.number_read, Start.Start, Step.next_record, Text.{lines_of, lines_of_step}}
+use Rattle.device_trace.specs.{Blank.{blank, blank_record, touches_secrets}, Logs.{Logs, aux_of, exec_of}, Trace.{Play, logs_after, released_words, trace, play_of}, Progress.{Progress, Held, Runs, InCall, last_registers, next_pc_of, stands_at_boundary}, Signals.number_read, Start.Start, Step.next_record, Text.{lines_of, lines_of_step}}
 use Rattle.key_isolation.proofs.{FlagBlank.exec-blank, Hiding.{flags_of-hide, hide, hide_progress, last_registers-hide, next_pc_of-hide, open_start}, Induction.{play_hides, releases_before}, Reading.value_read-hide, TextBlank.lines_of-hide}
 use Rattle.trace_files.specs.{LineText.trace_line, TraceText.{next_line, trace_lines}}
-use Rattle.trace_files.proofs.{SameSight.shape-told, SameText.lines_keyless}
-use Rattle.debug_session.specs.{Request.most_steps, Watched.{flag_access, hits_by, hits_of, seen_accesses}, declared.watch.{Hit.Hit, Watch.Watch}, Place.{Run, aux_at, differs, exec_at, is_shown, logs_at, next_sight, no_step, play_to, shown_at, sight_at, step_at, step_sight, view_of}, Sight.StepSight}
-use Rattle.session_laws.proofs.{SameHits.same_hits, SameSights.{IsSameTo, still}}
+use Rattle.trace_files.proofs.{Right.shape-told, SameText.lines_keyless}
+use Rattle.debug_session.specs.{Request.most_steps, Watched.{flag_access, hits_by, hits_of, seen_accesses, data_access, first_watched, hit_by, hit_where, hits_by_access, is_of_kind, some_hit}, declared.watch.{Hit.Hit, Watch.Watch, WatchKind.WatchKind}, Place.{Run, aux_at, differs, exec_at, is_shown, logs_at, next_sight, no_step, play_to, shown_at, sight_at, step_at, step_sight, view_of}, Sight.StepSight, Shown.{byte_and, bytes_shown}}
+use Rattle.session_laws.proofs.SameSights.{IsSameTo, still}
+use Rattle.play_script.specs.Grammar.{ScriptSoFar, with_entry}
+use Rattle.text_scan.specs.{Reader.◌>>=◌, declared.fault_kind.FaultKind.FaultKind}
+use Rattle.device_live.specs.{Answer.{Answer, silent_answer}, Life.{Life, events_in, play_lived, with_happening, with_script}}
+use Rattle.device_live.proofs.Lives.{entry-lived}
+use Rattle.debug_session.specs.declared.watch.WatchKind.TheVariants as watch
+
+-- Watches look at no number that a write carries.
+
+-- a watch looks at no number that a write carries
+kind-number : (kind : WatchKind) (place : ℕ) (size : Size) (number other : ℕ)
+    → is_of_kind kind (Write place size number) ≡ is_of_kind kind (Write place size other)
+kind-number watch.Write place size number other = refl
+kind-number watch.Read place size number other = refl
+kind-number watch.Either place size number other = refl
+
+hit-number : (one : Watch) (place : ℕ) (size : Size) (number other : ℕ)
+    → hit_by (Write place size number) one ≡ hit_by (Write place size other) one
+hit-number one place size number other =
+    ap
+    (λ (test : Bool).
+    if test then hit_where one.kind (first_watched one (places_of place size)) else None)
+    (kind-number one.kind place size number other)
+
+write_hits-number : (watches : List Watch) (place : ℕ) (size : Size) (number other : ℕ)
+    → hits_by_access (Write place size number) watches
+    ≡ hits_by_access (Write place size other) watches
+write_hits-number [] place size number other = refl
+write_hits-number (one ∷ watches) place size number other =
+    λ i. some_hit (hit-number one place size number other i)
+    ++ write_hits-number watches place size number other i
+
+hits-number : (access : Option Access) (watches : List Watch)
+    → hits_by (data_access (without_number access)) watches ≡ hits_by (data_access access) watches
+hits-number None watches = refl
+hits-number (Some (Fetch place)) watches = refl
+hits-number (Some (Read place size)) watches = refl
+hits-number (Some (Write place size number)) watches =
+    write_hits-number watches place size 0 number
+
+made_hits-number : (refused : Bool) (access : Option Access) (watches : List Watch)
+    → hits_by (if refused then None else data_access (without_number access)) watches
+    ≡ hits_by (if refused then None else data_access access) watches
+made_hits-number true access watches = refl
+made_hits-number false access watches = hits-number access watches
+
+-- the hits of an access in a step
+pub same_hits : (rule rule' : Option Rule) (access access' : Option Access) (watches : List Watch)
+    → rule ≡ rule' → without_number access ≡ without_number access'
+    → hits_by (if is_some rule then None else data_access access) watches
+    ≡ hits_by (if is_some rule' then None else data_access access') watches
+same_hits rule rule' access access' watches same_rule same_shape =
+    sym (made_hits-number (is_some rule) access watches)
+    ∙ (ap
+    (λ (one : Option Rule).
+    hits_by (if is_some one then None else data_access (without_number access)) watches) same_rule
+    ∙ (ap
+    (λ (shape : Option Access).
+    hits_by (if is_some rule' then None else data_access shape) watches) same_shape
+    ∙ made_hits-number (is_some rule') access' watches))
 
 -- the same run without its key, where the calls release these words
 abbrev pub open_run : List ℕ → Run → Run
@@ -272,3 +329,77 @@ module _ (words : List ℕ) (run : Run) (last : ℕ) (released : Released words 
         places = λ place within. still-same (min place most_steps)
             (omega (arith, min-le_left place most_steps, within));
       }
+
+-- Two runs in whose steps a device that lives tells the same.
+
+-- at a place
+pub record SamePlace (left right : Run) (place : ℕ) : Type 0 where
+  pub registers : last_registers (logs_at left place).progress
+      ≡ last_registers (logs_at right place).progress
+  pub next_pc : next_pc_of (logs_at left place).progress
+      ≡ next_pc_of (logs_at right place).progress
+  pub exec : exec_at left place ≡ exec_at right place
+  pub bytes : (at : ℕ) → shown_at left place at ≡ shown_at right place at
+
+-- up to a place
+pub record SameRuns (left right : Run) (most : ℕ) : Type 0 where
+  pub places : (place : ℕ) → place ≤ most → SamePlace left right place
+  pub lines : (place : ℕ) → place < most
+      → lines_of_step left.start (left.events_at place) (play_to left place)
+      ≡ lines_of_step right.start (right.events_at place) (play_to right place)
+
+pub bytes-same : {left right : Run} {place : ℕ} → SamePlace left right place
+    → (at count : ℕ)
+    → bytes_shown (sight_at left place) at count ≡ bytes_shown (sight_at right place) at count
+unfolding sight_at
+bytes-same same at zero = refl
+bytes-same same at (suc count) =
+    λ i. byte_and (same.bytes at i) (bytes-same same (suc at) count i)
+
+-- a run, and the same without its key
+pub same_without_key : (words : List ℕ) (run : Run) (most : ℕ) → Released words run most
+    → SameRuns run (open_run words run) most
+same_without_key words run most released =
+    record {
+      places = λ place within.
+          let here = released_before words run most place within released in
+          record {
+            registers = registers-same words run place here;
+            next_pc = next_pc-same words run place here;
+            exec = exec-same words run place here;
+            bytes = byte-same words run place here;
+          };
+      lines = λ place below.
+          step_lines-same words run place
+          (released_before words run most (suc place) (omega (arith, below)) released);
+    }
+
+-- A later life: the steps that were made stay as they were.
+
+pub record GoesOn (life later : Life) : Type 0 where
+  pub steps : life.steps ≤ later.steps
+  pub play : play_of (events_in later) life.steps ≡ play_lived life
+
+abbrev pub LeadsOn : Life → Result Answer FaultKind → Type 0
+LeadsOn life result = IfOk result (λ answer. GoesOn life answer.life)
+
+pub goes-nowhere : (life : Life) → GoesOn life life
+goes-nowhere life = record { steps = omega arith; play = refl }
+
+-- what happens in a step to come
+entry-goes : (life : Life) (step : ℕ) (events : List Event)
+    → nat_lt step life.steps ≡ false
+    → (read : Result ScriptSoFar FaultKind)
+    → with_entry life.script (step, events) ≡ read
+    → LeadsOn life (with_script life read >>= λ later. Ok (silent_answer later))
+entry-goes life step events late (Ok script) fits =
+    record { steps = omega arith; play = entry-lived life script step events late fits }
+entry-goes life step events late (Err kind) fits = tt
+
+pub happening-goes : (life : Life) (step : ℕ) (events : List Event)
+    → LeadsOn life (with_happening life step events >>= λ later. Ok (silent_answer later))
+happening-goes life step events =
+    ⊎_elim
+    (λ late. rw late tt)
+    (λ on. rw on (entry-goes life step events on (with_entry life.script (step, events)) refl))
+    (cases_Bool (nat_lt step life.steps))

@@ -1,4 +1,3 @@
-pub mod Pieces
 pub mod LineLemmas
 pub mod ServedPieces
 pub mod ServedEnds

@@ -1,15 +1,54 @@
 -- What the phases of a call ask for.
-use Rattle.std.proofs.Common.{◌≡◌, ◌<◌, ◌∙◌, ℕ, List, Some, true, false, length, inl, inr, refl, ap, sym, subst, arith}
-use Rattle.std.proofs.lemmas.Bool.{cases_Bool, lt-ltb}
-use Rattle.std.proofs.lemmas.Bool.Decides.{nat_tests}
+use Rattle.std.proofs.{Common.{◌≡◌, ◌<◌, ◌∙◌, ℕ, List, Some, true, false, length, inl, inr, refl, ap, sym, subst, arith, ◌++◌, ◌∷◌, [], if◌then◌else◌}, lemmas.Bool.{cases_Bool, lt-ltb, Decides.nat_tests}}
 use Rattle.word_arith.specs.declared.size.Size.TheVariants.{Word}
 use Rattle.std.specs.Prelude.{◌==◌, ◌+◌, ◌*◌, nat_lt, slice_index}
 use Rattle.device_types.specs.{declared.{access.Access.Access, bounds.Bounds.Bounds}, Map.{mac_region, DERIVED_KEY, INNER_DIGEST, KEPT_COUNTER}}
-use Rattle.part_definitions.specs.{BusAccess.{read_at, write_at}, Attestation.{CallItem, KeptWrite, DecisionWrite, DerivedKeyWrite, RegionRead, InnerDigestWrite, MacWrite, call_item, item_access, item_pc, bounds_read, decision_read, region_words, region_place, written_word, word_of_bytes, is_return, word_passed}}
-use Rattle.part_definitions.proofs.CallItems.{item_until_decision}
-use Rattle.swatt_rom.specs.{RomCall.{call_access, next_word}, Phase.{read_place, IsWrite, PhaseStandsFor, HasDecided}, declared.{decided.Decided.Decided, region_words.RegionWords.RegionWords, request_words.RequestWords.RequestWords, phase.Phase.{Phase, TheVariants.{ReadsRequest, WritesHighWord, WritesLowWord, WritesDecision, WritesDerivedKey, ReadsRegion, WritesInnerDigest, WritesMac}}}}
+use Rattle.part_definitions.specs.{BusAccess.{read_at, write_at}, Attestation.{CallItem, KeptWrite, DecisionWrite, DerivedKeyWrite, RegionRead, InnerDigestWrite, MacWrite, call_item, item_access, item_pc, bounds_read, decision_read, region_words, region_place, written_word, word_of_bytes, is_return, word_passed}, Request.ATTESTS}
+use Rattle.part_definitions.proofs.CallItems.{item_until_decision, item_after, item_after-is}
+use Rattle.swatt_rom.specs.{RomCall.{call_access, next_word, RomCall, NoCall, InCall, AfterCall, end_of_call, after_step, after_value}, Phase.{read_place, IsWrite, PhaseStandsFor, HasDecided, IsBeforeReturn}, declared.{decided.Decided.Decided, region_words.RegionWords.RegionWords, request_words.RequestWords.RequestWords, phase.Phase.{Phase, TheVariants.{ReadsRequest, WritesHighWord, WritesLowWord, WritesDecision, WritesDerivedKey, ReadsRegion, WritesInnerDigest, WritesMac}}, state.State.TheVariants.{Calls, Returns}}, Rom.StateStandsFor}
 use Rattle.hmac_core.specs.{Hash.Hash, declared.running_hmac.Hmac.Hmac}
-use Rattle.swatt_rom.proofs.{WordsPassed.region_in, Items.{item_after-request, item_after-high, item_after-low, item_after-decision, item_after-derived_key, item_after-region, item_after-inner_digest, item_after-mac}}
+use Rattle.swatt_rom.proofs.WordsPassed.{region_in}
+
+-- The accesses of a call, by the number of words that passed.
+
+pub item_after-request : (region decision count : ℕ) → count < 77
+    → item_after region decision count ≡ item_until_decision count
+item_after-request region decision count within = grind (arith, nat_tests, item_after-is)
+
+pub item_after-high : (region decision count : ℕ) → count ≡ 74
+    → item_after region decision count ≡ KeptWrite 1
+item_after-high region decision count at = grind (arith, nat_tests, item_after-is)
+
+pub item_after-low : (region decision count : ℕ) → count ≡ 75
+    → item_after region decision count ≡ KeptWrite 0
+item_after-low region decision count at = grind (arith, nat_tests, item_after-is)
+
+pub item_after-decision : (region decision count : ℕ) → count ≡ 76
+    → item_after region decision count ≡ DecisionWrite
+item_after-decision region decision count at = grind (arith, nat_tests, item_after-is)
+
+pub item_after-derived_key :
+    (region decision count i : ℕ) → decision ≡ ATTESTS → i < 16 → count ≡ 77 + i
+    → item_after region decision count ≡ DerivedKeyWrite i
+item_after-derived_key region decision count i attests within at =
+    grind (arith, nat_tests, item_after-is)
+
+pub item_after-region :
+    (region decision count i : ℕ) → decision ≡ ATTESTS → i < region → count ≡ 93 + i
+    → item_after region decision count ≡ RegionRead i
+item_after-region region decision count i attests within at =
+    grind (arith, nat_tests, item_after-is)
+
+pub item_after-inner_digest :
+    (region decision count i : ℕ) → decision ≡ ATTESTS → i < 16 → count ≡ 93 + region + i
+    → item_after region decision count ≡ InnerDigestWrite i
+item_after-inner_digest region decision count i attests within at =
+    grind (arith, nat_tests, item_after-is)
+
+pub item_after-mac :
+    (region decision count i : ℕ) → decision ≡ ATTESTS → i < 16 → count ≡ 109 + region + i
+    → item_after region decision count ≡ MacWrite i
+item_after-mac region decision count i attests within at = grind (arith, nat_tests, item_after-is)
 
 -- the item of a phase
 abbrev pub item_of : {D : Type 0} → Phase D → CallItem
@@ -167,3 +206,48 @@ module _ {D : Type 0} (hash : Hash D) where
   next_word-region region mac sp value words stands =
       sym (ap (λ access. word_passed (Some access) value)
       (access_of-phase sp (ReadsRegion region mac) words stands))
+
+-- The engine's states, as a value is taken.
+
+module _ {D : Type 0} (hash : Hash D) where
+  -- a step that is not the return read goes on with the call
+  after_step-phase :
+      (phase : Phase D) (sp : ℕ) (words : List ℕ) (value : ℕ)
+      → PhaseStandsFor hash phase words
+      → InCall sp (words ++ next_word hash.digest_of sp words value ∷ [])
+      ≡ after_step hash.digest_of sp words value
+  after_step-phase phase sp words value stands =
+      sym (ap (λ returns. if returns then AfterCall (end_of_call sp value (decision_read words))
+      else InCall sp (words ++ next_word hash.digest_of sp words value ∷ []))
+      (is_return-phase hash phase words stands))
+
+  pub after_value-calls :
+      (sp value : ℕ) (phase next : Phase D)
+      → ((start : ℕ) (words : List ℕ)
+      → PhaseStandsFor hash phase words
+      → PhaseStandsFor hash next (words ++ next_word hash.digest_of start words value ∷ []))
+      → (call : RomCall)
+      → StateStandsFor hash (Calls sp phase) call
+      → StateStandsFor hash (Calls sp next) (after_value hash.digest_of call value)
+  after_value-calls sp value phase next step NoCall stands = absurd stands
+  after_value-calls sp value phase next step (InCall start words) stands =
+      subst (StateStandsFor hash (Calls sp next))
+      (after_step-phase phase start words value stands.1)
+      (stands.0, step start words stands.1)
+  after_value-calls sp value phase next step (AfterCall end) stands = absurd stands
+
+  pub after_value-returns :
+      (sp value decision : ℕ) (phase : Phase D)
+      → ((start : ℕ) (words : List ℕ)
+      → PhaseStandsFor hash phase words
+      → IsBeforeReturn decision (words ++ next_word hash.digest_of start words value ∷ []))
+      → (call : RomCall)
+      → StateStandsFor hash (Calls sp phase) call
+      → StateStandsFor {D = D} hash
+      (Returns sp decision) (after_value hash.digest_of call value)
+  after_value-returns sp value decision phase step NoCall stands = absurd stands
+  after_value-returns sp value decision phase step (InCall start words) stands =
+      subst (StateStandsFor {D = D} hash (Returns sp decision))
+      (after_step-phase phase start words value stands.1)
+      (stands.0, step start words stands.1)
+  after_value-returns sp value decision phase step (AfterCall end) stands = absurd stands

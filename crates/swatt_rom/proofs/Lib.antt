@@ -1,9 +1,5 @@
 pub mod ValidBounds
-pub mod WordBytes
 pub mod WordsPassed
-pub mod Items
 pub mod Decisions
 pub mod Accesses
 pub mod Steps
-pub mod Calls
-pub mod Returns

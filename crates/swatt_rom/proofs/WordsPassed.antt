@@ -1,10 +1,37 @@
 -- What the words that passed in a call mean, as more of them pass.
-use Rattle.std.proofs.Common.{◌≡◌, ◌<◌, ◌≤◌, ◌+◌, ◌++◌, ◌∷◌, ◌∙◌, [], ℕ, List, length, length-append, take, drop, ap, sym, arith}
-use Rattle.std.proofs.Math.ListN.{get_or-append}
-use Rattle.std.proofs.lemmas.List.{take-append-le, drop-append-le, take_all, drop_all, length-drop}
-use Rattle.part_definitions.specs.{Attestation.{bounds_read, region_words, bytes_of_words, key_read, metadata_read, region_read, kept_read, decision_read, decision_in, counter_word, metadata_word, derived_key, call_key, inner_in, tag_in}, Request.ATTESTS}
+use Rattle.std.proofs.{Common.{◌≡◌, ◌<◌, ◌≤◌, ◌+◌, ◌++◌, ◌∷◌, ◌∙◌, [], ℕ, List, length, length-append, take, drop, ap, sym, arith, ◌/◌, ◌%◌, ◌^◌, append_assoc, get_or, refl, false, Some, inl, inr, subst}, Math.ListN.get_or-append, lemmas.{List.{take-append-le, drop-append-le, take_all, drop_all, length-drop, take_more}, Bool.{cases_Bool, eqb-true, cond-true, cond-false, Decides.nat_tests}}}
+use Rattle.part_definitions.specs.{Attestation.{bounds_read, region_words, bytes_of_words, key_read, metadata_read, region_read, kept_read, decision_read, decision_in, counter_word, metadata_word, derived_key, call_key, inner_in, tag_in, ReturnRead, item_access, item_pc, is_return, call_item, written_word}, Request.ATTESTS, BusAccess.read_at}
 use Rattle.std.specs.Prelude.{◌==◌, slice_index, if◌then◌else◌}
-use Rattle.swatt_rom.proofs.WordBytes.{bytes_of_words-append}
+use Rattle.word_arith.specs.declared.size.Size.TheVariants.{Word}
+use Rattle.part_definitions.proofs.CallItems.{item_after, item_after-is}
+use Rattle.hmac_core.specs.Hash.{Hash}
+use Rattle.swatt_rom.specs.{RomCall.{RomCall, NoCall, InCall, AfterCall, end_of_call, next_word, after_value, rom_access, rom_pc}, Phase.IsBeforeReturn, Rom.StateStandsFor, declared.{call_end.CallEnd.CallEnd, state.State.TheVariants.{Returns, Leaves}}}
+
+-- Words as their bytes in memory order.
+
+pub bytes_of_words-append :
+    (xs ys : List ℕ) → bytes_of_words (xs ++ ys) ≡ bytes_of_words xs ++ bytes_of_words ys
+bytes_of_words-append [] ys = refl
+bytes_of_words-append (x ∷ xs) ys =
+    ap (λ bytes. x % 256 ∷ x / 256 ∷ bytes) (bytes_of_words-append xs ys)
+
+-- the bytes of one word more
+pub bytes_of_words-more :
+    (words : List ℕ) (i : ℕ) (bytes : List ℕ) (low high : ℕ)
+    → i < length words
+    → bytes ≡ bytes_of_words (take i words)
+    → low ≡ get_or words i 0 % 256
+    → high ≡ get_or words i 0 / 256 % 256
+    → get_or words i 0 < 2 ^ 16
+    → (bytes ++ low ∷ []) ++ high ∷ [] ≡ bytes_of_words (take (i + 1) words)
+bytes_of_words-more words i bytes low high within same is_low is_high fits =
+    let is_whole : high ≡ get_or words i 0 / 256 = omega arith in
+    append_assoc bytes (low ∷ []) (high ∷ [])
+    ∙ ap (λ prefix. prefix ++ low ∷ high ∷ []) same
+    ∙ ap (λ byte. bytes_of_words (take i words) ++ byte ∷ high ∷ []) is_low
+    ∙ ap (λ byte. bytes_of_words (take i words) ++ get_or words i 0 % 256 ∷ byte ∷ []) is_whole
+    ∙ sym (bytes_of_words-append (take i words) (get_or words i 0 ∷ []))
+    ∙ ap bytes_of_words (sym (take_more words i 0 within))
 
 -- how many words of the region a call with these words reads
 abbrev pub region_in : List ℕ → ℕ
@@ -124,3 +151,64 @@ tag_in-append digest xs ys over =
       metadata_read-append xs ys (omega arith),
       region_read-append xs ys over,
     )
+
+-- The return read of a call.
+
+attests-return : (region decision count : ℕ) → decision ≡ ATTESTS → count ≡ 125 + region
+    → item_after region decision count ≡ ReturnRead
+attests-return region decision count attests at = grind (arith, nat_tests, item_after-is)
+
+denies-return : (region decision count : ℕ) → (decision == ATTESTS) ≡ false → count ≡ 77
+    → item_after region decision count ≡ ReturnRead
+denies-return region decision count denies at = grind (arith, nat_tests, item_after-is)
+
+pub return-item : (decision : ℕ) (words : List ℕ) → IsBeforeReturn decision words
+    → call_item words ≡ ReturnRead
+return-item decision words before =
+    elim (cases_Bool (decision_read words == ATTESTS)) [
+      | inl attests ↦
+          attests-return (region_in words) (decision_read words) (length words)
+          (eqb-true (decision_read words) ATTESTS attests)
+          (before.count
+          ∙ cond-true (decision_read words == ATTESTS) (125 + region_in words) 77 attests)
+      | inr denies ↦
+          denies-return (region_in words) (decision_read words) (length words) denies
+          (before.count
+          ∙ cond-false (decision_read words == ATTESTS) (125 + region_in words) 77 denies)
+    ]
+
+module _ {D : Type 0} (hash : Hash D) where
+  pub pc-returns : (sp decision : ℕ) (call : RomCall)
+      → StateStandsFor {D = D} hash (Returns sp decision) call
+      → 0xBFFE ≡ rom_pc call
+  pc-returns sp decision NoCall stands = absurd stands
+  pc-returns sp decision (InCall start words) stands =
+      sym (ap item_pc (return-item decision words stands.1))
+  pc-returns sp decision (AfterCall end) stands = absurd stands
+
+  pub access-returns : (sp decision : ℕ) (call : RomCall)
+      → StateStandsFor {D = D} hash (Returns sp decision) call
+      → Some (read_at Word sp) ≡ rom_access hash.digest_of call
+  access-returns sp decision NoCall stands = absurd stands
+  access-returns sp decision (InCall start words) stands =
+      ap (λ place. Some (read_at Word place)) stands.0
+      ∙ sym
+      (ap (λ item. Some
+      (item_access start (bounds_read words) item (written_word hash.digest_of words item)))
+      (return-item decision words stands.1))
+  access-returns sp decision (AfterCall end) stands = absurd stands
+
+  pub after_value-leaves : (sp decision value : ℕ) (end : CallEnd)
+      → end ≡ end_of_call sp value decision
+      → (call : RomCall)
+      → StateStandsFor {D = D} hash (Returns sp decision) call
+      → StateStandsFor {D = D} hash (Leaves end) (after_value hash.digest_of call value)
+  after_value-leaves sp decision value end is NoCall stands = absurd stands
+  after_value-leaves sp decision value end is (InCall start words) stands =
+      subst (StateStandsFor {D = D} hash (Leaves end))
+      (sym (ap (λ item. if is_return item
+      then AfterCall (end_of_call start value (decision_read words))
+      else InCall start (words ++ next_word hash.digest_of start words value ∷ []))
+      (return-item decision words stands.1)))
+      (rw (is, stands.0, stands.1.same_decision) refl)
+  after_value-leaves sp decision value end is (AfterCall left) stands = absurd stands

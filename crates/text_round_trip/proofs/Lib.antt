@@ -7,17 +7,11 @@ pub mod ListedInstruction
 pub mod ListedJump
 pub mod ListedItem
 pub mod ListedPlace
-pub mod ListedBytes
 pub mod PlainItem
 pub mod WrittenExpr
-pub mod WrittenOperand
 pub mod WrittenStatement
-pub mod WrittenInstruction
 pub mod WrittenDirective
-pub mod WrittenBody
-pub mod WrittenLine
 pub mod PrintedText
 pub mod WrittenSource
-pub mod Decision
 pub mod PlayLines
 pub mod PrintableReport

@@ -1,17 +1,69 @@
 -- The lines of a play, read one after another.
-use Rattle.std.proofs.Common.{◌∙◌, ℕ, ◌%◌, ◌<◌, Bool, true, false, List, [], ◌∷◌, ◌++◌, Option, Some, None, IfSome, Ok, length, append-nil, ap, subst, arith}
-use Rattle.std.specs.Prelude.{◌==◌, ◌^◌, if◌then◌else◌}
-use Rattle.std.specs.Option.{option_to_list}
-use Rattle.device_types.specs.{declared.{access.Access.{Access, TheVariants.Write}, bus_record.BusRecord.BusRecord, rule.Rule.Rule}, Report.ReportFields, ExecFlag.SeenHistory, Address.{Bytes, Contents}}
-use Rattle.part_definitions.specs.{Request.ATTESTS, Serial.SERIAL_SEND, PeripheralRegister.covers, Hmac.Digest}
-use Rattle.device_trace.specs.{Trace.{Play, logs_after}, Logs.{Logs, exec_of, logged_byte}, Progress.next_pc_of, Start.{Start, with_key}, Step.next_record, Text.{byte_sent_by, byte_sent_in, report_of, report_where, report_in, denial_in, some_line, step_lines, lines_of, play_text, end_line_after}}
+use Rattle.std.proofs.{Common.{◌∙◌, ℕ, ◌%◌, ◌<◌, Bool, true, false, List, [], ◌∷◌, ◌++◌, Option, Some, None, IfSome, Ok, length, append-nil, ap, subst, arith, ◌≡◌, ◌&&◌, ◌⊎◌, inl, inr, refl, sym}, lemmas.Bool.and_parts}
+use Rattle.std.specs.{Prelude.{◌==◌, ◌^◌, if◌then◌else◌, not, nat_le, is_none}, Option.option_to_list, Str.bytes_eq}
+use Rattle.device_types.specs.{declared.{access.Access.{Access, TheVariants.Write}, bus_record.BusRecord.BusRecord, rule.Rule.Rule}, Report.ReportFields, ExecFlag.SeenHistory, Address.{Bytes, Contents}, Kind.is_rom, Map.ROM_EXIT}
+use Rattle.part_definitions.specs.{Request.{ATTESTS, request_decision, right_token}, Serial.SERIAL_SEND, PeripheralRegister.covers, Hmac.Digest, Metadata.{counter_in, token_in, little_endian}}
+use Rattle.device_trace.specs.{Trace.{Play, logs_after, trace}, Logs.{Logs, exec_of, logged_byte, step_progress, with_events, with_record}, Progress.next_pc_of, Start.{Start, with_key}, Step.next_record, Text.{byte_sent_by, byte_sent_in, report_of, report_where, report_in, denial_in, some_line, step_lines, lines_of, play_text, end_line_after, denial_where, last_decision, last_denial}}
 use Rattle.printed_lines.specs.Line.{sent_line, reset_line, report_line, denied_line}
-use Rattle.mac_coverage.specs.Coverage.{IsDeviceKey, IsOfBytes}
-use Rattle.mac_coverage.proofs.{MemoryBytes.{PowerOnBytes, byte_after-byte}, Words.are_bytes}
+use Rattle.mac_coverage.specs.Coverage.{IsDeviceKey, IsOfBytes, ends_in_call, ends_finished, MacCoversCall}
+use Rattle.mac_coverage.proofs.{Device.{PowerOnBytes, byte_after-byte}, Words.are_bytes, Covers.decision_after-finishes, Plays.mac_covers_call}
 use Rattle.report_text.specs.ReadBack.{IsPrintable}
 use Rattle.report_text.proofs.ReadLines.{ReadsAs, reads-none, reads-both, reads-whole, reads-report, reads-sent, reads-reset, reads-denied, reads-end}
 use Rattle.text_round_trip.specs.ReadBack.{play_reports, FitsItsLines, IsPlayReadBack}
-use Rattle.text_round_trip.proofs.{Decision.{IsDenial, last_denial-is}, PrintableReport.printable-report}
+use Rattle.text_round_trip.proofs.PrintableReport.{printable-report}
+
+-- A call that denies has decided 2 or 3.
+
+abbrev pub IsDenial : ℕ → Type 0
+IsDenial decision = (decision ≡ 2) ⊎ (decision ≡ 3)
+
+-- what a request decides denies with 2 or 3, or attests
+denies-where : (differs is_old : Bool)
+    → IfSome (denial_where (Some (if differs then 3 else if is_old then 2 else ATTESTS))) IsDenial
+denies-where true is_old = inr refl
+denies-where false true = inl refl
+denies-where false false = tt
+
+request_decision-denies : (digest : Digest) (key metadata kept : List ℕ)
+    → IfSome (denial_where (Some (request_decision digest key metadata kept))) IsDenial
+request_decision-denies digest key metadata kept =
+    denies-where (not (bytes_eq (token_in metadata) (right_token digest key metadata)))
+    (nat_le (little_endian (counter_in metadata)) (little_endian kept))
+
+-- a step with a decision finishes a call
+last_decision-finishes : (start : Start) (play : Play) (decision : ℕ)
+    → last_decision start play ≡ Some decision
+    → (ends_in_call (trace start play) ≡ true) × (ends_finished (trace start play) ≡ true)
+unfolding trace logs_after with_record
+last_decision-finishes start [] decision is = absurd (cc)
+last_decision-finishes start (events ∷ play) decision is =
+    let logs : Logs = with_events (logs_after start play) events in
+    let entry : BusRecord = next_record start (logs_after start play) events in
+    let finishes = (decision_after-finishes (step_progress logs entry.kind) entry decision is).0 in
+    let parts = and_parts (is_rom entry.kind && (entry.pc == ROM_EXIT)) (is_none entry.reset)
+    finishes in
+    ((and_parts (is_rom entry.kind) (entry.pc == ROM_EXIT) parts.0).0, finishes)
+
+pub last_denial-is : (flag : SeenHistory → Bool) (digest : Digest) (key : Bytes) (image : Contents)
+    (play : Play)
+    → IsDeviceKey key → IsOfBytes image
+    → IfSome (last_denial (with_key flag digest key image) play) IsDenial
+last_denial-is flag digest key image play device_key bytes =
+    by_decision (last_decision start play) refl
+  where
+    start : Start
+    start = with_key flag digest key image
+
+    by_decision : (decision : Option ℕ) → last_decision start play ≡ decision
+        → IfSome (denial_where decision) IsDenial
+    by_decision None is = tt
+    by_decision (Some decision) is =
+        let ends = last_decision-finishes start play decision is in
+        let covers : MacCoversCall digest key start play =
+        mac_covers_call flag digest key image play device_key bytes ends.0 in
+        subst (λ (told : Option ℕ). IfSome (denial_where told) IsDenial)
+        (sym (covers.told ends.1) ∙ is)
+        (request_decision-denies digest key covers.contents.metadata covers.kept)
 
 -- what is sent is a byte
 sent_if : (test : Bool) (number : ℕ)

@@ -10,7 +10,7 @@ use Rattle.asm_text.specs.{Token.is_text_character, Word.{is_word_character, is_
 use Rattle.msp_asm.specs.ItemText.{size_suffix}
 use Rattle.text_round_trip.specs.{ReadBack.AreNumerals, StatementText.{Numerals, term_text, sign_text, more_text, expr_text, operand_text, more_operands_text, operands_text, operand_list, body_text, label_text, statement_text}, Writable.{is_free_name, is_writable_term, is_writable_expr, is_writable_operand, is_none_or_writable, is_writable_body, is_free_label, is_writable}}
 use Rattle.msp_decode.specs.{declared.reg.Reg.{Reg as Register, TheVariants.R0}}
-use Rattle.text_round_trip.proofs.{Numerals.number-is, WrittenDirective.symbolic-are, WrittenInstruction.instruction-parts, Words.mnemonic-operation, WrittenExpr.{are_terms, terms-are, name-characters}, WrittenStatement.are_operands}
+use Rattle.text_round_trip.proofs.{Numerals.number-is, WrittenDirective.symbolic-are, WrittenStatement.{instruction-parts, are_operands}, Words.mnemonic-operation, WrittenExpr.{are_terms, terms-are, name-characters}}
 
 -- from a space (32) to a tilde (126)
 abbrev pub is_printed : ℕ → Bool

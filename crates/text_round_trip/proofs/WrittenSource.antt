@@ -1,16 +1,54 @@
 -- A source is read back.
-use Rattle.std.proofs.Common.{◌≡◌, ◌∙◌, ap, sym, subst, ℕ, zero, suc, ◌+◌, ◌<◌, ◌≤◌, arith, true, List, [], ◌∷◌, ◌++◌, append_assoc, length, get_or, refl, Result, Ok}
-use Rattle.std.specs.Prelude.{codes, map, nat_le}
-use Rattle.std.specs.List.{list_all}
-use Rattle.std.specs.Str.{IsAscii}
-use Rattle.std.specs.Str.Lines.{lines}
-use Rattle.std.proofs.lemmas.Bool.{and_parts, leb-true}
-use Rattle.std.proofs.lemmas.Str.{IsUtf8-from_ascii}
-use Rattle.text_scan.specs.{declared.fault_at.FaultAt.FaultAt, LineFold.{numbered_lines, text_lines}, Reader.{◌>>=◌, in_line}}
+use Rattle.std.proofs.{Common.{◌≡◌, ◌∙◌, ap, sym, subst, ℕ, zero, suc, ◌+◌, ◌<◌, ◌≤◌, arith, true, List, [], ◌∷◌, ◌++◌, append_assoc, length, get_or, refl, Result, Ok, Option, Some, None}, lemmas.{Bool.{and_parts, leb-true}, Str.IsUtf8-from_ascii}}
+use Rattle.std.specs.{Prelude.{codes, map, nat_le}, List.list_all, Str.{IsAscii, Lines.lines}}
+use Rattle.text_scan.specs.{declared.{fault_at.FaultAt.FaultAt, fault_kind.FaultKind.FaultKind}, LineFold.{numbered_lines, text_lines}, Reader.{◌>>=◌, in_line}}
 use Rattle.text_scan.proofs.{FirstLine.{lines_cut, lines-line}, TextUtf8.utf8_of-whole}
-use Rattle.asm_text.specs.{declared.statement.Statement.Statement, Operand.all_of, Source.{statement_of, source_of}}
-use Rattle.text_round_trip.specs.{ReadBack.{AreNumerals, at_line, source_text, from_line}, StatementText.{Numerals, statement_text}, Writable.is_writable}
-use Rattle.text_round_trip.proofs.{PrintedText.{is_printed, are_printed, line-printed}, WrittenLine.read-back}
+use Rattle.asm_text.specs.{declared.{statement.Statement.Statement, body.Body.{Body, TheVariants.{Empty, Instr, Org, Word, Byte, Ascii, Equ}}, token.Token.TheVariants.Colon}, Operand.all_of, Source.{statement_of, source_of, line_statement, statement_in_line}}
+use Rattle.text_round_trip.specs.{ReadBack.{AreNumerals, at_line, source_text, from_line}, StatementText.{Numerals, statement_text, body_text, label_text}, Writable.{is_writable, is_free_label, is_writable_body}}
+use Rattle.text_round_trip.proofs.{PrintedText.{is_printed, are_printed, line-printed}, Falls.{FallsInto, falls-then, falls-apart, colon-falls, blank-falls}, WrittenStatement.{IsBodyText, instruction-parts, instruction-text}, WrittenExpr.{token_of_name, name-falls}, Words.{without_label, line-read}, WrittenDirective.{empty-text, org-text, words-text, bytes-text, ascii-text, equ-text}}
+
+-- A line is read back.
+
+-- What stands behind a label is read back.
+
+pub body-written : (numerals : Numerals) → AreNumerals numerals → (body : Body)
+    → is_writable_body body ≡ true → IsBodyText (body_text numerals body) body
+body-written numerals are Empty is = empty-text
+body-written numerals are (Instr mnemonic size first second) is =
+    instruction-text numerals are mnemonic size first second
+    (instruction-parts mnemonic size first second is)
+body-written numerals are (Org expr) is = org-text numerals are expr is
+body-written numerals are (Word exprs) is = words-text numerals are exprs is
+body-written numerals are (Byte exprs) is = bytes-text numerals are exprs is
+body-written numerals are (Ascii text) is = ascii-text numerals text is
+body-written numerals are (Equ name expr) is = equ-text numerals are name expr is
+
+-- a name with a colon and a blank before a text
+labelled-text : (name text : List ℕ)
+    → name ++ (codes ":" ++ (codes " " ++ text)) ≡ name ++ codes ": " ++ text
+labelled-text name text = sym (append_assoc name (codes ": ") text)
+
+labelled-back : (number : ℕ) (label : Option (List ℕ)) (text : List ℕ) (body : Body)
+    → is_free_label label ≡ true → IsBodyText text body
+    → line_statement number (label_text label ++ text) ≡ Ok (statement_in_line number (label, body))
+labelled-back number None text body free is =
+    line-read number (None, body) is.falls
+    (is.plain ∙ ap (λ (answer : Result Body FaultKind). answer >>= without_label) is.read)
+labelled-back number (Some name) text body free is =
+    line-read number (Some name, body)
+    (subst (λ (line : List ℕ). FallsInto line (token_of_name name ∷ Colon ∷ is.tokens))
+    (labelled-text name text)
+    (falls-apart (name-falls name free) refl
+    (falls-then colon-falls (falls-then blank-falls is.falls))))
+    (ap (λ (answer : Result Body FaultKind). answer >>= (λ body. Ok (Some name, body))) is.read)
+
+pub read-back : (numerals : Numerals) (number : ℕ) (statement : Statement)
+    → AreNumerals numerals → is_writable statement ≡ true
+    → line_statement number (statement_text numerals statement) ≡ Ok (at_line number statement)
+read-back numerals number statement are is =
+    let parts = and_parts (is_free_label statement.label) (is_writable_body statement.body) is in
+    labelled-back number statement.label (body_text numerals statement.body) statement.body parts.0
+    (body-written numerals are statement.body parts.1)
 
 -- a printed line and its end
 

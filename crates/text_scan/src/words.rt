@@ -116,7 +116,7 @@ fn blanks_len(line: &[u8]) -> usize
 }
 
 // The word at the beginning of a line, and what follows it.
-#[tactic(auto, using(crate::proofs::FirstWord::words_cut))]
+#[tactic(auto, using(crate::proofs::PlainWords::words_cut))]
 fn first_word(line: &[u8]) -> (&[u8], &[u8])
     requires some { 0 < length line.now }
     requires word { is_blank (slice_index line.now 0) ≡ false }

@@ -1,15 +1,41 @@
 -- The bounds stay as they are where no write touches the metadata.
-use Rattle.std.proofs.Common.{◌≡◌, ℕ, ◌+◌, ◌*◌, ◌/◌, true, false, List, ◌++◌, Option, Some, None, refl, sym, ◌∙◌, arith}
-use Rattle.std.specs.Prelude.{◌==◌, ◌||◌, option_to_list}
-use Rattle.std.specs.List.{list_any}
-use Rattle.std.proofs.lemmas.Bool.{or_parts}
-use Rattle.std.proofs.lemmas.Bool.Decides.{nat_tests}
-use Rattle.std.proofs.lemmas.List.Folds.{list_any-append}
+use Rattle.std.proofs.{Common.{◌≡◌, ℕ, ◌+◌, ◌*◌, ◌/◌, true, false, List, ◌++◌, Option, Some, None, refl, sym, ◌∙◌, arith, ◌%◌}, lemmas.{Bool.{or_parts, cond-false, or_from, Decides.nat_tests}, List.Folds.list_any-append}}
+use Rattle.std.specs.{Prelude.{◌==◌, ◌||◌, option_to_list, ◌&&◌}, List.list_any}
 use Rattle.word_arith.specs.declared.size.Size.TheVariants.{Byte, Word}
-use Rattle.device_types.specs.{declared.{access.Access.{Access, TheVariants.{Fetch, Read, Write}}, bus_record.BusRecord.BusRecord, rule.Rule.Rule}, Map.{lies_in, metadata_region}, ExecFlag.{accesses_in, writes_to}}
+use Rattle.device_types.specs.{declared.{access.Access.{Access, TheVariants.{Fetch, Read, Write}}, bus_record.BusRecord.BusRecord, rule.Rule.Rule, region.Region.Region}, Map.{lies_in, metadata_region, touches, some_touches}, ExecFlag.{accesses_in, writes_to}, Access.{is_write, some_writes}}
 use Rattle.part_definitions.specs.Memory.{MemoryWrite, last_written, with_access}
 use Rattle.device_trace.specs.{Logs.{Logs, logged_bounds, memory_after, with_record}, Start.Start}
-use Rattle.trace_facts.proofs.MissedPlace.{MissesPlace, last_written-missed}
+
+-- Where an access does not write.
+
+-- a byte elsewhere
+abbrev pub MissesPlace : Option Access → ℕ → Type 0
+MissesPlace None p = Unit {0}
+MissesPlace (Some (Fetch place)) p = Unit {0}
+MissesPlace (Some (Read place size)) p = Unit {0}
+MissesPlace (Some (Write place Byte number)) p = (place == p) ≡ false
+MissesPlace (Some (Write place Word number)) p =
+    ((place / 2 * 2 == p) ≡ false) × ((place / 2 * 2 + 1 == p) ≡ false)
+
+pub last_written-missed : (access : Option Access) (writes : List MemoryWrite) (p before : ℕ)
+    → MissesPlace access p
+    → last_written (with_access access writes) p before ≡ last_written writes p before
+last_written-missed None writes p before misses = refl
+last_written-missed (Some (Fetch place)) writes p before misses = refl
+last_written-missed (Some (Read place size)) writes p before misses = refl
+last_written-missed (Some (Write place Byte number)) writes p before misses =
+    cond-false (place == p) (number % 256) (last_written writes p before) misses
+last_written-missed (Some (Write place Word number)) writes p before misses =
+    cond-false (place / 2 * 2 + 1 == p) (number / 256 % 256) _ misses.1
+    ∙ cond-false (place / 2 * 2 == p) (number % 256) (last_written writes p before) misses.0
+
+-- nothing in a region
+pub writes_nowhere : (access : Option Access) (region : Region)
+    → (some_writes access && some_touches access region) ≡ false
+    → list_any (writes_to region) (option_to_list access) ≡ false
+writes_nowhere None region off = refl
+writes_nowhere (Some access) region off =
+    or_from (is_write access && touches access region) false off refl
 
 byte_elsewhere : (place p : ℕ)
     → lies_in metadata_region p ≡ true → ((lies_in metadata_region place || false) || false) ≡ false

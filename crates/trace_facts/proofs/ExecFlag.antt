@@ -1,12 +1,28 @@
 -- Where EXEC is set, the bounds are valid.
-use Rattle.std.proofs.Common.{◌≡◌, Bool, true, false, List, [], ◌∷◌, ◌⊎◌, inl, inr, refl, ap, ◌∙◌}
-use Rattle.std.specs.Prelude.{◌==◌, ◌&&◌, is_some, if◌then◌else◌}
-use Rattle.std.specs.List.{list_any}
-use Rattle.std.proofs.lemmas.Bool.{and_parts, or_cases, or_parts}
+use Rattle.std.proofs.{Common.{◌≡◌, Bool, true, false, List, [], ◌∷◌, ◌⊎◌, inl, inr, refl, ap, ◌∙◌, not, Option, Some, None, arith}, lemmas.Bool.{and_parts, or_cases, or_parts}}
+use Rattle.std.specs.{Prelude.{◌==◌, ◌&&◌, is_some, if◌then◌else◌}, List.list_any}
 use Rattle.device_types.specs.{declared.bus_record.BusRecord.BusRecord, Bounds.are_valid, Map.metadata_region, ExecFlag.{SeenRecord, accesses_in, writes_to, is_opcode_fetch, clears_e3, clears_e4, clears_e9, clears, starts_run, last_pc, records_since, exec}}
 use Rattle.part_definitions.specs.TrustedFlag.{clears_aux, aux}
 use Rattle.device_trace.specs.{Trace.{Play, logs_after}, Logs.{Logs, exec_of, logged_bounds, with_events, with_record}, Start.Start, Step.next_record}
-use Rattle.trace_facts.proofs.{Choices.none_there, BoundsStay.logged_bounds-stay}
+use Rattle.trace_facts.proofs.BoundsStay.{logged_bounds-stay}
+
+-- What tests and options say of each other.
+
+pub other_false : (x y : Bool) → (x && y) ≡ false → y ≡ true → x ≡ false
+other_false x y off holds = grind arith
+
+pub first_false : (x y : Bool) → (x && not y) ≡ false → y ≡ false → x ≡ false
+first_false x y off outside = grind arith
+
+pub none_there : {A : Type 0} (option : Option A) → is_some option ≡ false → option ≡ None
+none_there None off = refl
+none_there (Some x) off = absurd (cc)
+
+-- what is there only where a test holds
+pub some_where : {A : Type 0} (test : Bool) (value answer : A)
+    → (if test then Some value else None) ≡ Some answer → (test ≡ true) × (value ≡ answer)
+some_where true value answer is = (refl, cc)
+some_where false value answer is = absurd (cc)
 
 -- where the flag is set after a record, this does not clear it, and it starts a run or the flag was
 -- set before

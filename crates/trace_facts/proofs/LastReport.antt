@@ -5,7 +5,7 @@ use Rattle.std.proofs.lemmas.Bool.{eqb-true}
 use Rattle.device_types.specs.Report.{ReportFields}
 use Rattle.part_definitions.specs.Request.{ATTESTS}
 use Rattle.device_trace.specs.{Trace.{Play, logs_after}, Logs.Logs, Start.Start, Text.{last_decision, last_report, report_of, report_where}}
-use Rattle.trace_facts.proofs.Choices.{some_where}
+use Rattle.trace_facts.proofs.ExecFlag.{some_where}
 
 pub record IsMade (start : Start) (logs : Logs) (decision : Option ℕ) (report : ReportFields)
     : Type 0 where

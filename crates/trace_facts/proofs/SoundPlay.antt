@@ -1,11 +1,11 @@
 -- The progress is sound after every play.
-use Rattle.std.proofs.Common.{◌≡◌, Bool, [], ◌∷◌, None}
-use Rattle.part_definitions.specs.FirstRule.{first_rule}
-use Rattle.device_types.specs.{ExecFlag.last_pc, declared.bus_record.BusRecord.BusRecord}
-use Rattle.device_trace.specs.{Trace.{Play, logs_after, trace}, Logs.{Logs, vector_of, step_progress, with_events}, Signals.{step_kind, signals_at, signals_of}, Start.Start, Step.{record_of, next_record}}
+use Rattle.std.proofs.{Common.{◌≡◌, Bool, [], ◌∷◌, None, true, false, sym, ◌∙◌}, lemmas.List.Elements.{All-nil, All-cons}}
+use Rattle.part_definitions.specs.{FirstRule.first_rule, MonitorRule.in_rom}
+use Rattle.device_types.specs.{ExecFlag.last_pc, declared.{bus_record.BusRecord.BusRecord, kind.Kind.{Kind, TheVariants.Rom}}}
+use Rattle.device_trace.specs.{Trace.{Play, logs_after, trace}, Logs.{Logs, vector_of, step_progress, with_events}, Signals.{step_kind, signals_at, signals_of}, Start.Start, Step.{record_of, next_record}, Progress.{Progress, Held, Runs, InCall, next_pc_of}}
 use Rattle.trace_facts.proofs.{Sound.{IsSound, IsWithin, progress_within-right, next_progress-sound}, BreaksNoRule.first_rule-none, EachPlay.{HoldsAfter, logs_after-kept}}
 use Rattle.std.specs.Prelude.{All}
-use Rattle.std.proofs.lemmas.List.Elements.{All-nil, All-cons}
+use Rattle.trace_facts.specs.Naming.{RunsRomInCall}
 
 -- of the logs of a play
 abbrev pub LogsAreSound : Logs → Type 0
@@ -40,3 +40,24 @@ each_record Holds start holds (events ∷ play) =
     All-cons Holds (next_record start (logs_after start play) events) (trace start play)
     (holds (with_events (logs_after start play) events) _ (logs_after-sound start play))
     (each_record Holds start holds play)
+
+-- The ROM's code is run in calls alone.
+
+within_rom : (kind : Kind) (progress : Progress) → IsWithin kind progress
+    → in_rom (next_pc_of progress) ≡ true → kind ≡ Rom
+within_rom kind Held within inside = absurd (cc)
+within_rom kind (Runs cpu) within inside =
+    let clash : true ≡ false = sym inside ∙ within in
+    absurd (cc)
+within_rom kind (InCall regs words) within inside = within
+
+record_of-in_call : (start : Start) (logs : Logs) (reset : Bool) → LogsAreSound logs
+    → RunsRomInCall (record_of start logs reset)
+unfolding record_of signals_at
+record_of-in_call start logs reset sound none inside =
+    within_rom (step_kind logs) (step_progress logs (step_kind logs))
+    (within_unrefused start logs reset sound none) inside
+
+pub trace-in_call : (start : Start) (play : Play)
+    → All RunsRomInCall (trace start play)
+trace-in_call start = each_record RunsRomInCall start (record_of-in_call start)

@@ -1,10 +1,8 @@
 pub mod LineReadBack
-pub mod FileReadBack
 pub mod Spans
 pub mod Exec
 pub mod FileAudit
 pub mod Clearing
-pub mod Offences
 pub mod Binary
 pub mod Pieces
 pub mod Others
@@ -16,9 +14,5 @@ pub mod Changes
 pub mod Steps
 pub mod WaveReadBack
 pub mod Rows
-pub mod Records
-pub mod SameSight
 pub mod Right
-pub mod SameLines
-pub mod SameSamples
 pub mod SameText

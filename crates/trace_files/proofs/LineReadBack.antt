@@ -1,20 +1,16 @@
 -- The text of a line is read as that line.
-use Rattle.std.proofs.Common.{◌≡◌, ◌∙◌, ℕ, ◌%◌, ◌^◌, ◌<◌, Bool, true, false, List, [], ◌∷◌, ◌++◌, Option, Some, None, IfSome, Ok, drop, refl, ap, arith, rules}
-use Rattle.std.specs.Prelude.{◌==◌, codes}
-use Rattle.std.specs.Fmt.{decimal}
-use Rattle.std.specs.List.{list_all}
-use Rattle.std.proofs.lemmas.Bool.{and_from, eq-eqb}
-use Rattle.std.proofs.lemmas.List.Folds.{list_all-append}
+use Rattle.std.proofs.{Common.{◌≡◌, ◌∙◌, ℕ, ◌%◌, ◌^◌, ◌<◌, Bool, true, false, List, [], ◌∷◌, ◌++◌, Option, Some, None, IfSome, Ok, drop, refl, ap, arith, rules, suc, ◌+◌, ◌≤◌, length, append-nil, append_assoc, sym, ◌↔◌}, lemmas.{Bool.{and_from, eq-eqb}, List.Folds.list_all-append, Slice.Eq.bytes_eq-Decides}}
+use Rattle.std.specs.{Prelude.{◌==◌, codes, if◌then◌else◌}, Fmt.decimal, List.list_all, Str.Lines.lines}
 use Rattle.hex.specs.Hex.{encode_with}
 use Rattle.word_arith.specs.declared.size.Size.TheVariants.{Byte, Word}
 use Rattle.device_types.specs.{declared.{access.Access.{Access, TheVariants.{Fetch, Read, Write}}, bounds.Bounds.Bounds, kind.Kind.Kind, rule.Rule.Rule}, Kind.{kind_name, kind_names}, Bounds.AreWords}
 use Rattle.printed_lines.specs.Line.{byte_digits, word_digits, flag_digit}
 use Rattle.line_buffer.specs.LineLaw.{ArePieces}
 use Rattle.line_buffer.proofs.PieceLines.{first_line, plain-flag, plain-byte, plain-word}
-use Rattle.text_scan.specs.WordValue.{number_of, place_of, value_of}
+use Rattle.text_scan.specs.{WordValue.{number_of, place_of, value_of}, LineFold.numbered_lines}
 use Rattle.named_value.specs.Names.{value_named, IsPlainWord, is_plain}
 use Rattle.text_scan.proofs.{NamedWord.value_of-name, PlainWords.{one_byte, decimal_of-decimal, hex_bytes_of-digits, hex_word_of-digits, plain-decimal}}
-use Rattle.trace_files.specs.{declared.trace_line.TraceLine.TraceLine, LineText.{access_word, rule_word, line_pieces}, LineGrammar.{LAST_TRACED_STEP, fetch_in, read_in, write_in, access_in, rule_in, named_of, flag_of, bounds_of, fields_of, trace_line_of}, LineReadBack.{IsAllowed, IsPrintable, LinesReadBack}}
+use Rattle.trace_files.specs.{declared.{trace_line.TraceLine.TraceLine, offence.Offence.{Offence, TheVariants.{RuleIs, ExecIs}}}, LineText.{access_word, rule_word, line_pieces, trace_line, file_text}, LineGrammar.{LAST_TRACED_STEP, fetch_in, read_in, write_in, access_in, rule_in, named_of, flag_of, bounds_of, fields_of, trace_line_of, lines_after, trace_of}, LineReadBack.{IsAllowed, IsPrintable, LinesReadBack, ArePrintable, FilesReadBack}, Clean.{right_rule, right_exec, IsRight, IsClean}, Offence.{is_same_rule, is_same_flag, offence_of, or_first, first_offence, CleanHasNoOffence}}
 
 -- the value of each word
 
@@ -192,3 +188,138 @@ line_reads_back step line small printable =
     let are = pieces-line step line small printable in
     ap (trace_line_of step) (first_line (codes "t") (line_pieces step line) [] are).words
     ∙ trace_line_of-pieces step line small printable
+
+-- The text of a trace file is read as its lines.
+
+-- lines in order, from this step on
+text_from : ℕ → List TraceLine → List ℕ
+text_from step [] = []
+text_from step (line ∷ later) = trace_line step line ++ text_from (suc step) later
+
+-- in front of lines that are the newest first, lines in order
+onto : List TraceLine → List TraceLine → List TraceLine
+onto [] before = before
+onto (line ∷ later) before = onto later (line ∷ before)
+
+read_from : (number : ℕ) (later before : List TraceLine)
+    → ArePrintable later → length before + length later ≤ 2 ^ 32
+    → lines_after before (numbered_lines number (lines (text_from (length before) later)))
+    ≡ Ok (onto later before)
+unfolding text_from onto lines_after
+read_from number [] before printable few = refl
+read_from number (line ∷ later) before printable few =
+    let small : length before < 2 ^ 32 = omega (arith, few) in
+    rw (
+      (first_line (codes "t") (line_pieces (length before) line)
+          (text_from (suc (length before)) later)
+          (pieces-line (length before) line small printable.0)).line,
+      line_reads_back (length before) line small printable.0,
+    ) (read_from (number + 1) later (line ∷ before) printable.1 (omega (arith, few)))
+
+file_text-onto : (later before : List TraceLine)
+    → file_text (onto later before) ≡ file_text before ++ text_from (length before) later
+unfolding onto text_from
+file_text-onto [] before = sym (append-nil (file_text before))
+file_text-onto (line ∷ later) before =
+    file_text-onto later (line ∷ before)
+    ∙ append_assoc (file_text before) (trace_line (length before) line)
+    (text_from (suc (length before)) later)
+
+onto-onto : (later before tail : List TraceLine)
+    → onto (onto later before) tail ≡ onto before (later ++ tail)
+unfolding onto
+onto-onto [] before tail = refl
+onto-onto (line ∷ later) before tail = onto-onto later (line ∷ before) tail
+
+printable-onto : (later before : List TraceLine)
+    → ArePrintable later → ArePrintable before → ArePrintable (onto later before)
+unfolding onto
+printable-onto [] before left right = right
+printable-onto (line ∷ later) before left right =
+    printable-onto later (line ∷ before) left.1 (left.0, right)
+
+length-onto : (later before : List TraceLine)
+    → length (onto later before) ≡ length later + length before
+unfolding onto
+length-onto [] before = omega arith
+length-onto (line ∷ later) before = omega (arith, length-onto later (line ∷ before))
+
+pub file_reads_back : FilesReadBack
+unfolding onto
+file_reads_back lines printable few =
+    let later : List TraceLine = onto lines [] in
+    let twice : onto later [] ≡ lines = onto-onto lines [] [] ∙ append-nil lines in
+    ap (λ (ls : List TraceLine). trace_of (file_text ls)) (sym twice)
+    ∙ (ap (λ (text : List ℕ). trace_of text) (file_text-onto later [])
+    ∙ (read_from 1 later [] (printable-onto lines [] printable tt)
+    (omega (arith, few, length-onto lines []))
+    ∙ ap Ok twice))
+
+-- A list of lines has no offence exactly where it is clean.
+
+same_rule : (left right : Option Rule) → is_same_rule left right ≡ true → left ≡ right
+same_rule left right same =
+    let words : rule_word left ≡ rule_word right =
+    (bytes_eq-Decides (rule_word left) (rule_word right)).0 same in
+    let both : Ok left ≡ Ok right =
+    sym (rule_in-word left) ∙ (ap rule_in words ∙ rule_in-word right) in
+    cc
+
+rule_same : (rule : Option Rule) → is_same_rule rule rule ≡ true
+rule_same rule = (bytes_eq-Decides (rule_word rule) (rule_word rule)).1 refl
+
+flag_same : (flag : Bool) → is_same_flag flag flag ≡ true
+flag_same true = refl
+flag_same false = refl
+
+same_flag : (left right : Bool) → is_same_flag left right ≡ true → left ≡ right
+same_flag true true same = refl
+same_flag true false same = absurd (cc)
+same_flag false true same = absurd (cc)
+same_flag false false same = refl
+
+-- of the two tests
+no_difference : (rules flags : Bool) (rule : Option Rule) (exec : Bool)
+    → (if rules then (if flags then None else Some (ExecIs exec)) else Some (RuleIs rule)) ≡ None
+    → (rules ≡ true) × (flags ≡ true)
+no_difference true true rule exec none = (refl, refl)
+no_difference true false rule exec none = absurd (cc)
+no_difference false flags rule exec none = absurd (cc)
+
+right_iff : (before : List TraceLine) (line : TraceLine)
+    → (offence_of before line ≡ None) ↔ IsRight before line
+right_iff before line = (
+  λ (none : offence_of before line ≡ None).
+      let both = no_difference (is_same_rule line.rule (right_rule before line))
+      (is_same_flag line.exec (right_exec (line ∷ before))) (right_rule before line)
+      (right_exec (line ∷ before)) none in
+      record {
+        rule = same_rule line.rule (right_rule before line) both.0;
+        exec = same_flag line.exec (right_exec (line ∷ before)) both.1;
+      },
+  λ (right : IsRight before line).
+      rw (
+        ap (λ (rule : Option Rule). is_same_rule line.rule rule) (sym right.rule)
+            ∙ rule_same line.rule,
+        ap (λ (exec : Bool). is_same_flag line.exec exec) (sym right.exec) ∙ flag_same line.exec,
+      ) refl,
+)
+
+none_first : (first : Option (ℕ × Offence)) (step : ℕ) (offence : Option Offence)
+    → or_first first step offence ≡ None → (first ≡ None) × (offence ≡ None)
+none_first None step None none = (refl, refl)
+none_first None step (Some offence) none = absurd (cc)
+none_first (Some first) step offence none = absurd (cc)
+
+pub clean_iff : CleanHasNoOffence
+unfolding first_offence
+clean_iff [] = (λ none. tt, λ clean. refl)
+clean_iff (line ∷ before) = (
+  λ (none : or_first (first_offence before) (length before) (offence_of before line) ≡ None).
+      let both = none_first (first_offence before) (length before) (offence_of before line) none in
+      ((right_iff before line).0 both.1, (clean_iff before).0 both.0),
+  λ (clean : IsRight before line × IsClean before).
+      ap (λ (first : Option (ℕ × Offence)). or_first first (length before)
+      (offence_of before line)) ((clean_iff before).1 clean.1)
+      ∙ ap (or_first None (length before)) ((right_iff before line).1 clean.0),
+)

@@ -1,2 +1,1 @@
-pub mod RomSteps
 pub mod StillTime

@@ -1,16 +1,48 @@
 -- Through a call the second flag stays as it is.
-use Rattle.std.proofs.Common.{not, ◌≡◌, ◌&&◌, ℕ, Bool, true, false, List, [], ◌∷◌, inl, inr, Option, Some, None, map, refl, ap, sym, ◌∙◌, subst, is_some, arith}
-use Rattle.std.specs.Prelude.{◌==◌, is_none}
-use Rattle.std.proofs.lemmas.Bool.{cond_both, cond-true, and_left, and_right, and_parts, eq-eqb}
-use Rattle.device_types.specs.{declared.{access.Access.Access, bus_record.BusRecord.BusRecord, kind.Kind.TheVariants.Rom}, Access.some_writes, Bounds.are_valid, Kind.is_rom, Map.ROM_ENTRY, Report.ReportFields, ExecFlag.{SeenRecord, SeenHistory, last_pc}}
-use Rattle.part_definitions.specs.{MonitorRule.leaves_stack_and_mac, TrustedFlag.aux}
+use Rattle.std.proofs.{Common.{not, ◌≡◌, ◌&&◌, ℕ, Bool, true, false, List, [], ◌∷◌, inl, inr, Option, Some, None, map, refl, ap, sym, ◌∙◌, subst, is_some, arith}, lemmas.Bool.{cond_both, cond-true, and_left, and_right, and_parts, eq-eqb, or_from, Decides.nat_tests}}
+use Rattle.std.specs.{Prelude.{◌==◌, is_none}, List.list_any}
+use Rattle.device_types.specs.{declared.{access.Access.Access, bus_record.BusRecord.BusRecord, kind.Kind.TheVariants.Rom}, Access.{some_writes, bytes_of}, Bounds.are_valid, Kind.is_rom, Map.{ROM_ENTRY, lies_in, touches, vector_region}, Report.ReportFields, ExecFlag.{SeenRecord, SeenHistory, last_pc, runs_inside, records_since}}
+use Rattle.part_definitions.specs.{MonitorRule.{leaves_stack_and_mac, in_rom, is_written_by_rom}, TrustedFlag.{aux, clears_aux, clears_f3, clears_f4, clears_f10}}
 use Rattle.part_definitions.proofs.CallItems.{first_pc}
 use Rattle.device_trace.specs.{Trace.{Play, logs_after, trace}, Blank.{blank_access, blank_record, blank_seen}, Logs.{Logs, aux_of, goes_on_in_call, records_until_call, logged_bounds, vector_of, step_progress, with_events, with_record}, Progress.{Progress, Held, Runs, InCall, next_pc_of}, Signals.step_kind, Start.Start, Step.{record_of, asks_reset, next_record}, Text.{last_report, last_decision, last_denial}, RegionRun.{TrustedInterrupts, TrustedRun}}
-use Rattle.mac_coverage.proofs.{ExecKept.IsRomStep, Plays.{rom_kind, record_of-on_call}, Steps.{rom_step-of_call, OnCall, record_of-call, record_of-kind, record_of-pc, IsInRom}}
+use Rattle.mac_coverage.proofs.{ExecKept.{IsRomStep, rom_step-outside, rom_step-apart, rom_step-keeps_both, rom_step-starts_none, kept_flag}, Plays.{rom_kind, record_of-on_call}, Steps.{rom_step-of_call, OnCall, record_of-call, record_of-kind, record_of-pc, IsInRom}, ValidPlaces.none_elsewhere}
 use Rattle.proof_of_execution.proofs.Plays.{play_state, finished-run, report-run, denied_where}
 use Rattle.trusted_execution.specs.TrustedCall.{aux_seen, AuxAfterCallMeansTrustedRun}
-use Rattle.trusted_execution.proofs.RomSteps.{aux-rom_step}
 use Rattle.trace_facts.proofs.BlankRecords.{last_pc-blank}
+
+-- A step of the ROM after another leaves the second flag.
+
+vectors_unwritten : (place : ℕ) → is_written_by_rom place ≡ true
+    → lies_in vector_region place ≡ false
+vectors_unwritten place written = grind (arith, nat_tests)
+
+writes_off_vectors : (access : Access)
+    → list_any (λ place. not (is_written_by_rom place)) (bytes_of access) ≡ false
+    → touches access vector_region ≡ false
+writes_off_vectors access within =
+    none_elsewhere is_written_by_rom (lies_in vector_region) (bytes_of access) vectors_unwritten
+    within
+
+rom_step-keeps_aux : (last : ℕ) (now : SeenRecord) → IsRomStep now.entry → in_rom last ≡ true
+    → are_valid now.bounds ≡ true → clears_aux (Some last) now ≡ false
+rom_step-keeps_aux last now step rom valid =
+    let stays_out = rom_step-outside now step valid in
+    let f3 : clears_f3 (Some last) now ≡ false =
+    and_left _ _ (and_left (runs_inside now) _ stays_out) in
+    let f4 : clears_f4 now ≡ false = and_left (runs_inside now) _ stays_out in
+    let f10 : clears_f10 now ≡ false = rom_step-apart now vector_region step writes_off_vectors in
+    or_from _ _ (or_from _ _ (or_from _ _ (rom_step-keeps_both last now step rom valid) f3) f4) f10
+
+pub aux-rom_step : (last : ℕ) (now : SeenRecord) (before : List SeenRecord)
+    → last_pc before ≡ Some last → IsRomStep now.entry → in_rom last ≡ true
+    → (aux before ≡ true → are_valid now.bounds ≡ true)
+    → aux (now ∷ before) ≡ aux before
+unfolding aux
+aux-rom_step last now before is_last step rom valid =
+    kept_flag (clears_aux (last_pc before) now) now (records_since clears_aux before)
+    (rom_step-starts_none now step)
+    (λ set. ap (λ (pc : Option ℕ). clears_aux pc now) is_last
+    ∙ rom_step-keeps_aux last now step rom (valid set))
 
 -- a step of the ROM, blanked
 writes-blank : (cpu : Option Access)

@@ -6,7 +6,6 @@ pub mod Standing
 pub mod HeldReplies
 pub mod Remembered
 pub mod GoneOn
-pub mod AllRuns
 pub mod KeyOwners
 pub mod KeyMarks
 pub mod KeyPlaces

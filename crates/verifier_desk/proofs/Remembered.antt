@@ -1,15 +1,12 @@
 -- The memory has the state of each device after its lines.
-use Rattle.std.proofs.Common.{◌≡◌, ◌∙◌, ℕ, Bool, true, false, List, [], ◌∷◌, Option, Some, None, Result, Ok, Err, refl, ap, sym, subst, ⊎_elim}
-use Rattle.std.specs.Prelude.{if◌then◌else◌, nat_lt, length, IfSome}
-use Rattle.std.specs.Str.{bytes_eq}
-use Rattle.std.proofs.lemmas.Bool.{cases_Bool}
-use Rattle.std.proofs.lemmas.Slice.Eq.{bytes_eq-Decides}
+use Rattle.std.proofs.{Common.{◌≡◌, ◌∙◌, ℕ, Bool, true, false, List, [], ◌∷◌, Option, Some, None, Result, Ok, Err, refl, ap, sym, subst, ⊎_elim, ◌++◌}, lemmas.{Bool.cases_Bool, Slice.Eq.bytes_eq-Decides}}
+use Rattle.std.specs.{Prelude.{if◌then◌else◌, nat_lt, length, IfSome}, Str.bytes_eq}
 use Rattle.report_verifier.specs.Judge.{Judge}
 use Rattle.text_scan.specs.{declared.fault_kind.FaultKind.FaultKind, Decimal.decimal_of, Word.words_of}
 use Rattle.desk_memory.specs.{declared.device_state.DeviceState.DeviceState, DeviceState.{is_new, with_answer}, Entry.{Entry, Home, Note, entry_at, home_of, last_in, state_under, with_entry, with_note}, KeyMark.key_mark}
 use Rattle.desk_memory.proofs.Noted.{entry_is_last}
 use Rattle.source_server.specs.HeldLine.{LONGEST_LINE}
-use Rattle.verifier_desk.specs.{DeskLine.{DeskLine, TooLong, Silent, Foreign, Own, is_verb, own_or_foreign, desk_line_of_words, desk_line_of, DeviceLine}, DeviceKey.{DeviceKey, key_named}, DeviceReply.{new_answer, state_after, state_from}, Judged.{entry_after, entry_through, judged_by}, Law.{IsRemembered, judged_at}, Noted.{entries_after, noted_of, with_noted}, Replies.{DeskFields, judge_at, lines_said, mark_at, state_at}, Standing.with_said}
+use Rattle.verifier_desk.specs.{DeskLine.{DeskLine, TooLong, Silent, Foreign, Own, is_verb, own_or_foreign, desk_line_of_words, desk_line_of, DeviceLine}, DeviceKey.{DeviceKey, key_named}, DeviceReply.{new_answer, state_after, state_from}, Judged.{entry_after, entry_through, judged_by, JudgedLine}, Law.{IsRemembered, judged_at, judged_lines}, Noted.{entries_after, noted_of, with_noted}, Replies.{DeskFields, judge_at, lines_said, mark_at, state_at}, Standing.with_said, Run.{IsOfAllRuns, lines_through}}
 
 -- a line of a device is of one that the desk has
 abbrev pub IsKnown : List DeviceKey → DeskLine → Type 0
@@ -226,3 +223,24 @@ pub device_remembered : (desk : DeskFields) (device : DeviceKey) (lines : List (
 device_remembered desk device lines known =
     ap (state_under (mark_at desk device)) (memory_has_states desk lines device.name)
     ∙ state_known desk device (lines_said desk lines device.name) known
+
+-- The memory has the last entry of each device after its lines of all runs.
+
+pub entry_through-append : (name : List ℕ) (start : Option Entry) (later earlier : List JudgedLine)
+    → entry_through name start (later ++ earlier)
+    ≡ entry_through name (entry_through name start earlier) later
+entry_through-append name start [] earlier = refl
+entry_through-append name start (now ∷ later) earlier =
+    ap (λ (entry : Option Entry). entry_after name entry now)
+    (entry_through-append name start later earlier)
+
+pub memory_has_all_runs : IsOfAllRuns
+memory_has_all_runs start [] name so = refl
+memory_has_all_runs start (run ∷ earlier) name so =
+    memory_has_states run.desk run.lines name
+    ∙ ap (λ (entry : Option Entry). entry_through name entry
+    (judged_lines run.desk name run.lines))
+    (ap (λ (entries : List Entry). last_in entries name) so.0
+    ∙ memory_has_all_runs start earlier name so.1)
+    ∙ sym (entry_through-append name (last_in start name) (judged_lines run.desk name run.lines)
+    (lines_through earlier name))

@@ -1,5 +1,5 @@
 use Rattle.std.proofs.Common.{◌∙◌, ap, Ok, ◌≡◌, ◌++◌, ◌∷◌, []}
-use Rattle.asm_text.proofs.{MapError.ok_of_map_err, TokenSteps.{read_to-blank, read_to-comment, read_to-token, read_to-stray, read_to-end, piece_gives, token_within}}
+use Rattle.asm_text.proofs.TokenSteps.{ok_of_map_err, read_to-blank, read_to-comment, read_to-token, read_to-stray, read_to-end, piece_gives, token_within}
 use Rattle.asm_text.proofs.tokens.read_tokens.Goals as goal
 
 pub loop-at-preserved-in-Blank : goal.loop-at-preserved-in-Blank

@@ -1,5 +1,5 @@
 use Rattle.std.proofs.Common.{◌∙◌, ◌∷◌, List, ℕ, ap, arith}
-use Rattle.debug_link.proofs.ConsolePieces.{written-behind}
+use Rattle.debug_link.proofs.AddedText.{written-behind}
 use Rattle.debug_link.proofs.console_text.write_body.Goals as goal
 
 pub returns : goal.returns

@@ -1,5 +1,5 @@
 use Rattle.std.proofs.Common.{◌<◌, arith}
-use Rattle.debug_session.proofs.HexDigits.{digit_at, fits, one_more, value_more}
+use Rattle.debug_session.proofs.Decoded.{digit_at, fits, one_more, value_more}
 use Rattle.debug_session.proofs.number.value_of.Goals as goal
 
 pub digit_value-requires : goal.digit_value-requires

@@ -1,6 +1,6 @@
 use Rattle.std.proofs.Common.{Ok, refl}
 use Rattle.input_files.specs.Row.{Ends}
-use Rattle.desk_cli.proofs.FoundingAnswer.{refused-answer, remember-answer}
+use Rattle.desk_cli.proofs.MoveAnswer.{refused-answer, remember-answer}
 use Rattle.desk_cli.proofs.founding.run_remember.Goals as goal
 
 pub returns-in-Ok : goal.returns-in-Ok

@@ -1,6 +1,6 @@
 use Rattle.std.proofs.Common.{◌≡◌, subst, subst₂}
 use Rattle.desk_database.specs.Opening.{FailsAs, IsMadeOver, WhyUnmade}
-use Rattle.desk_database.proofs.FreshLemmas.{kept_leaves}
+use Rattle.desk_database.proofs.FilesLemmas.{kept_leaves}
 use Rattle.desk_database.proofs.opening.make_memory.Goals as goal
 
 pub returns-in-Ok-make_files-clause-made : goal.returns-in-Ok-make_files-clause-made

@@ -1,5 +1,5 @@
 use Rattle.std.proofs.Common.{◌∙◌, refl, sym}
-use Rattle.desk_database.proofs.RowColumns.{row_columns}
+use Rattle.desk_database.proofs.TableRows.{row_columns}
 use Rattle.desk_database.proofs.row_entry.entry_of.Goals as goal
 
 pub returns-clause-some : goal.returns-clause-some

@@ -2,7 +2,7 @@ use Rattle.std.proofs.Common.{◌++◌, ap}
 use Rattle.device_types.specs.Address.{Bytes}
 use Rattle.device_trace.specs.Text.{play_text}
 use Rattle.device_play.specs.Accounts.{end_line_of}
-use Rattle.device_cli.proofs.RoundPieces.{device-lines}
+use Rattle.device_cli.proofs.RoundLines.{device-lines}
 use Rattle.device_cli.proofs.law.round_is_play_with_verdicts.Goals as goal
 
 pub returns : goal.returns

@@ -2,7 +2,7 @@ use Rattle.std.proofs.Common.{◌≡◌, ◌∙◌, ◌⊎◌, ℕ, true, subst,
 use Rattle.debug_session.specs.{Cause.cause, Place.{sight_at, view_of}}
 use Rattle.debug_walk.specs.Walk.{IsStretch, place_of}
 use Rattle.device_debug.specs.{Ahead.{IsLastBehind, seek_back}, Going.step_in}
-use Rattle.device_debug.proofs.{Kept.exact-tells, LookingBack.{looks-back, looks-on}}
+use Rattle.device_debug.proofs.{Back.exact-tells, LookingBack.{looks-back, looks-on}}
 use Rattle.device_debug.proofs.backwards.last_cause.Goals as goal
 
 pub loop-here-preserved : goal.loop-here-preserved

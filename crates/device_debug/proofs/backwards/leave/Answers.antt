@@ -1,6 +1,6 @@
 use Rattle.std.proofs.Common.{ℕ, true, refl, subst, sym}
 use Rattle.debug_walk.specs.Walk.{IsStretch, place_of}
-use Rattle.device_debug.proofs.Kept.{fresh-tells}
+use Rattle.device_debug.proofs.Back.{fresh-tells}
 use Rattle.device_debug.proofs.backwards.leave.Goals as goal
 
 pub returns-then-is_broken-clause-stretch : goal.returns-then-is_broken-clause-stretch

@@ -2,7 +2,7 @@ use Rattle.std.proofs.Common.{◌≡◌, ℕ, true, false, Some, subst, arith}
 use Rattle.debug_session.specs.Place.{play_to}
 use Rattle.device_trace.specs.Trace.{last_record, trace}
 use Rattle.debug_walk.specs.Walk.{place_of}
-use Rattle.device_debug.proofs.Boundaries.{past-behind, refused-was}
+use Rattle.device_debug.proofs.Refusals.{past-behind, refused-was}
 use Rattle.device_debug.proofs.forwards.boundary_behind.Goals as goal
 
 pub returns-then-is_some : goal.returns-then-is_some

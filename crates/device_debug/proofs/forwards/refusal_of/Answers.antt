@@ -1,7 +1,7 @@
 use Rattle.std.proofs.Common.{◌∙◌}
 use Rattle.debug_session.specs.Place.{play_to}
 use Rattle.debug_walk.specs.Walk.{place_of}
-use Rattle.device_debug.proofs.Boundaries.{refusal-was}
+use Rattle.device_debug.proofs.Refusals.{refusal-was}
 use Rattle.device_debug.proofs.forwards.refusal_of.Goals as goal
 
 pub returns : goal.returns

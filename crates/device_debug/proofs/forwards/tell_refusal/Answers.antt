@@ -1,6 +1,6 @@
 use Rattle.std.proofs.Common.{◌≡◌, ◌∙◌, ◌++◌, codes}
 use Rattle.printed_lines.specs.Line.{reset_line}
-use Rattle.device_debug.proofs.RefusalText.{has-both, puts-failed, puts-none}
+use Rattle.device_debug.proofs.Refusals.{has-both, puts-failed, puts-none}
 use Rattle.device_debug.proofs.forwards.tell_refusal.Goals as goal
 
 pub returns-in_err-memory_result-clause-tells : goal.returns-in_err-memory_result-clause-tells

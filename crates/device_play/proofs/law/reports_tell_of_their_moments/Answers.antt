@@ -1,4 +1,4 @@
-use Rattle.device_play.proofs.PlayLaws.{lawful_report}
+use Rattle.device_play.proofs.WatchedPlay.{lawful_report}
 use Rattle.device_play.proofs.law.reports_tell_of_their_moments.Goals as goal
 
 pub returns : goal.returns

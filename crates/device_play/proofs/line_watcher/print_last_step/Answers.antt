@@ -1,5 +1,5 @@
 use Rattle.std.proofs.Common.{◌∷◌}
-use Rattle.device_play.proofs.{PutsLemmas.takes-nothing, StepLines.puts-lines}
+use Rattle.device_play.proofs.{WriteCounts.takes-nothing, StepLines.puts-lines}
 use Rattle.device_play.proofs.line_watcher.print_last_step.Goals as goal
 
 pub returns-in-Some-clause-puts : goal.returns-in-Some-clause-puts

@@ -1,5 +1,5 @@
 use Rattle.std.proofs.Common.{arith}
-use Rattle.debug_cli.proofs.NoFault.{no-fault-of_run}
+use Rattle.debug_cli.proofs.ServedSession.{no-fault-of_run}
 use Rattle.program_tests.proofs.debug.over_those_that_never_fail_all_is_answered.Goals as goal
 
 pub unreachable-requires : goal.unreachable-requires

@@ -1,5 +1,5 @@
 use Rattle.source_server.proofs.law.plain_piece_lengthens_line.Goals as goal
-use Rattle.source_server.proofs.Pieces.{plain_piece}
+use Rattle.source_server.proofs.LineLemmas.{plain_piece}
 
 pub returns : goal.returns
 returns c = plain_piece

@@ -1,5 +1,5 @@
 use Rattle.std.proofs.Common.{◌∙◌, ◌++◌, ◌∷◌, [], get_or, ap, rules, arith}
-use Rattle.swatt_rom.proofs.WordBytes.{bytes_of_words-more}
+use Rattle.swatt_rom.proofs.WordsPassed.{bytes_of_words-more}
 use Rattle.swatt_rom.proofs.word_bytes.bytes_of.Goals as goal
 
 pub loop-word-preserved : goal.loop-word-preserved

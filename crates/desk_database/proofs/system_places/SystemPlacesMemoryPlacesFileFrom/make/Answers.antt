@@ -1,7 +1,7 @@
 use Rattle.std.proofs.Common.{◌+◌, ℕ, Bool, cond, List, ap₂}
 use Rattle.sqlite_disk.specs.Events.{Event, replay}
 use Rattle.sqlite_wal.specs.Recovery.{Image}
-use Rattle.desk_database.proofs.FreshLemmas.{fresh_faults, fresh_leaves}
+use Rattle.desk_database.proofs.FilesLemmas.{fresh_faults, fresh_leaves}
 use Rattle.desk_database.proofs.system_places.SystemPlacesMemoryPlacesFileFrom.make.Goals as goal
 
 abbrev image : List ℕ → List ℕ → Image

@@ -1,4 +1,4 @@
-use Rattle.device_core.proofs.Lives.{live-bounds}
+use Rattle.device_core.proofs.Outside.{live-bounds}
 use Rattle.device_core.proofs.live.Live.bounds_before.Goals as goal
 
 pub returns : goal.returns

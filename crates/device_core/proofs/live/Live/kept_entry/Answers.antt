@@ -1,4 +1,4 @@
-use Rattle.device_core.proofs.Lives.{live-kept}
+use Rattle.device_core.proofs.Outside.{live-kept}
 use Rattle.device_core.proofs.live.Live.kept_entry.Goals as goal
 
 pub returns-in-Some-clause-last : goal.returns-in-Some-clause-last

@@ -1,5 +1,5 @@
 use Rattle.std.proofs.Common.{◌∙◌, sym}
-use Rattle.device_core.proofs.{Decisions.last_decision-Some, Lives.{live-kept, live-unkept}, OneLine.{no-line, plain-line}}
+use Rattle.device_core.proofs.{Decisions.last_decision-Some, Outside.{live-kept, live-unkept}, OneLine.{no-line, plain-line}}
 use Rattle.device_core.proofs.live.Live.line.Goals as goal
 
 pub returns-then-finishes_call : goal.returns-then-finishes_call

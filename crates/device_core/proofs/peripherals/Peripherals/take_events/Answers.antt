@@ -1,7 +1,7 @@
 use Rattle.std.proofs.Common.{arith}
 use Rattle.std.proofs.lemmas.List.{take_more}
 use Rattle.device_types.specs.declared.event.Event.TheVariants.{Rx}
-use Rattle.device_core.proofs.Happenings.{with_all_events-snoc}
+use Rattle.device_core.proofs.Turns.{with_all_events-snoc}
 use Rattle.device_core.proofs.peripherals.Peripherals.take_events.Goals as goal
 
 pub loop-event-preserved : goal.loop-event-preserved

@@ -1,8 +1,8 @@
 use Rattle.std.proofs.Common.{sym}
 use Rattle.debug_session.specs.Place.{step_sight}
 use Rattle.device_trace.specs.Trace.{play_of}
-use Rattle.device_play.proofs.IdlePlay.{length-play_of}
-use Rattle.device_debug.proofs.StepTexts.{traced-text}
+use Rattle.device_play.proofs.WatchedPlay.{length-play_of}
+use Rattle.device_debug.proofs.ToldTexts.{traced-text}
 use Rattle.device_debug.proofs.step_text.StepText.print.Goals as goal
 
 pub returns-in-Lines : goal.returns-in-Lines

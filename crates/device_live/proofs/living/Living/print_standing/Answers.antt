@@ -1,5 +1,5 @@
 use Rattle.std.proofs.Common.{◌≡◌, ◌∙◌}
-use Rattle.device_play.proofs.IdlePlay.{length-play_of}
+use Rattle.device_play.proofs.WatchedPlay.{length-play_of}
 use Rattle.device_live.specs.Life.{events_in, play_lived}
 use Rattle.device_live.proofs.Alive.{alive, never-gone}
 use Rattle.device_live.proofs.living.Living.print_standing.Goals as goal

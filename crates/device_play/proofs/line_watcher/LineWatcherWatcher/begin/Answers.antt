@@ -1,5 +1,5 @@
 use Rattle.device_trace.specs.Text.{lines_of}
-use Rattle.device_play.proofs.{GoesOn.lines-go_on, PutsLemmas.takes-nothing}
+use Rattle.device_play.proofs.{GoesOn.lines-go_on, WriteCounts.takes-nothing}
 use Rattle.device_play.proofs.line_watcher.LineWatcherWatcher.begin.Goals as goal
 
 pub returns-clause-goes_on : goal.returns-clause-goes_on

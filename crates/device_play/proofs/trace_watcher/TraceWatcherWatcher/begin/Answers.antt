@@ -1,5 +1,5 @@
 use Rattle.trace_files.specs.TraceText.{trace_lines}
-use Rattle.device_play.proofs.{GoesOn.trace-goes_on, PutsLemmas.takes-nothing}
+use Rattle.device_play.proofs.{GoesOn.trace-goes_on, WriteCounts.takes-nothing}
 use Rattle.device_play.proofs.trace_watcher.TraceWatcherWatcher.begin.Goals as goal
 
 pub returns-clause-goes_on : goal.returns-clause-goes_on

@@ -1,6 +1,6 @@
 use Rattle.std.proofs.Common.{◌≡◌, ◌&&◌, ◌||◌, ◌∙◌, not, sym, ap}
 use Rattle.device_types.specs.ExecFlag.{SeenRecord, starts_run}
-use Rattle.execution_flags.proofs.{UnclearedRun.flag-cons, run_flag.RunFlagTraceFlag.see.Goals.{then-self, else-self, then-starts_run, else-starts_run}}
+use Rattle.execution_flags.proofs.{UnclearedStarts.flag-cons, run_flag.RunFlagTraceFlag.see.Goals.{then-self, else-self, then-starts_run, else-starts_run}}
 use Rattle.execution_flags.proofs.run_flag.RunFlagTraceFlag.see.Goals as goal
 
 pub returns : goal.returns

@@ -1,4 +1,4 @@
-use Rattle.device_play.proofs.PutsLemmas.{takes-nothing}
+use Rattle.device_play.proofs.WriteCounts.{takes-nothing}
 use Rattle.report_verifier.specs.Judge.{judge_of}
 use Rattle.device_cli.specs.RoundText.{round_pieces}
 use Rattle.device_cli.proofs.{RoundLines.judge-goes_on, Tallies.tally-none}
