@@ -1,11 +1,5 @@
 -- Where the first of some characters or tokens stands.
-use Rattle.std.proofs.Common.{◌≡◌, ◌∙◌, ap, sym, refl, ℕ, ◌+◌, ◌<◌, ◌≤◌, arith, Bool, true, false, cond, not, List, [], ◌∷◌, Option, Some, None, length, take, drop}
-use Rattle.std.specs.Prelude.{nat_lt}
-use Rattle.std.specs.Option.{unwrap_or}
-use Rattle.std.specs.List.{position_or_len, slice_split}
-use Rattle.std.proofs.lemmas.Bool.{ltb-false}
-use Rattle.std.proofs.lemmas.List.Sums.{prefix_len-le-length, fails_before_first}
-use Rattle.std.proofs.lemmas.List.Splits.{slice_split_first, slice_split_none}
+use Rattle.std.{proofs.{Common.{◌≡◌, ◌∙◌, ap, sym, refl, ℕ, ◌+◌, ◌<◌, ◌≤◌, arith, Bool, true, false, cond, not, List, [], ◌∷◌, Option, Some, None, length, take, drop}, lemmas.{Bool.ltb-false, List.{Sums.{prefix_len-le-length, fails_before_first}, Splits.{slice_split_first, slice_split_none}}}}, specs.{Prelude.nat_lt, Option.unwrap_or, List.{position_or_len, slice_split}}}
 use Rattle.asm_text.specs.{declared.token.Token.{Token, TheVariants.Comma}, Operand.is_comma}
 
 by_test : (n most : ℕ) (test : Bool) → nat_lt n most ≡ test → n ≤ most

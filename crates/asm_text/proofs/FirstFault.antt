@@ -1,7 +1,6 @@
 -- The lines of a source that was read, and the first faulty line of one that was not.
 use Rattle.std.proofs.Common.{◌≡◌, ◌∙◌, ap, sym, refl, ℕ, List, [], ◌∷◌, inl, inr, map, Result, Ok, Err}
-use Rattle.text_scan.specs.{declared.{fault_at.FaultAt.FaultAt, fault_kind.FaultKind.FaultKind}, LineFold.text_lines, Reader.{◌>>=◌, in_line}}
-use Rattle.text_scan.proofs.TextUtf8.{text_read, text_refused, later_read, later_fault}
+use Rattle.text_scan.{specs.{declared.{fault_at.FaultAt.FaultAt, fault_kind.FaultKind.FaultKind}, LineFold.text_lines, Reader.{◌>>=◌, in_line}}, proofs.TextUtf8.{text_read, text_refused, later_read, later_fault}}
 use Rattle.asm_text.specs.{declared.statement.Statement.Statement, Source.{lone_statement, IsSource, IsFirstFault, IsFaultOf, statement_of, source_of}, Operand.all_of}
 
 -- what is done with a statement: the later ones follow it

@@ -1,9 +1,6 @@
 -- The value of digits, one after another.
-use Rattle.std.proofs.Common.{◌≡◌, ◌∙◌, ap, sym, refl, subst, ℕ, zero, suc, ◌+◌, ◌*◌, ◌<◌, ◌≤◌, arith, List, [], ◌∷◌, length, drop, get_or, drop-cons, add-one, None}
-use Rattle.std.specs.Char.{digit_value}
-use Rattle.std.specs.Str.Parse.{digits_value_after}
+use Rattle.std.{proofs.{Common.{◌≡◌, ◌∙◌, ap, sym, refl, subst, ℕ, zero, suc, ◌+◌, ◌*◌, ◌<◌, ◌≤◌, arith, List, [], ◌∷◌, length, drop, get_or, drop-cons, add-one, None}, lemmas.Bool.lt-leb}, specs.{Char.digit_value, Str.Parse.digits_value_after}}
 use Rattle.asm_text.specs.Word.{small_number}
-use Rattle.std.proofs.lemmas.Bool.{lt-leb}
 
 -- further digits make no number less
 after-least : (radix value : ℕ) (digits : List ℕ) → 1 ≤ radix

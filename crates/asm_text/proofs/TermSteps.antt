@@ -1,9 +1,7 @@
 -- The terms of an expression, one after another.
-use Rattle.std.proofs.Common.{◌≡◌, ◌∙◌, ap, sym, Bool, List, [], ◌∷◌, ◌++◌, ◌-◌, ◌<◌, ◌≤◌, arith, length, take, drop, get_or, Result, Ok, Err}
-use Rattle.std.proofs.lemmas.List.{take_rest}
+use Rattle.std.proofs.{Common.{◌≡◌, ◌∙◌, ap, sym, Bool, List, [], ◌∷◌, ◌++◌, ◌-◌, ◌<◌, ◌≤◌, arith, length, take, drop, get_or, Result, Ok, Err}, lemmas.List.take_rest}
 use Rattle.text_scan.specs.{declared.fault_kind.FaultKind.{FaultKind, TheVariants.Syntax}, Reader.◌>>=◌}
-use Rattle.asm_text.specs.{declared.{term.Term.Term, token.Token.Token}, Expr.SignedTerm, Operand.{term_of, sign_of, terms_of}}
-use Rattle.asm_text.proofs.Behind.{behind, behind-values}
+use Rattle.asm_text.{specs.{declared.{term.Term.Term, token.Token.Token}, Expr.SignedTerm, Operand.{term_of, sign_of, terms_of}}, proofs.Behind.{behind, behind-values}}
 
 pub terms-more : {whole : Result (List SignedTerm) FaultKind} (prefix more : List SignedTerm)
     (is_subtracted next : Bool) (token sign : Token) (rest : List Token) (term : Term)

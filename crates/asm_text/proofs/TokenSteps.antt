@@ -1,9 +1,7 @@
 -- The tokens of a line, one after another.
-use Rattle.std.proofs.{Common.{◌≡◌, ◌∙◌, ap, sym, refl, subst, ℕ, zero, suc, ◌+◌, ◌-◌, ◌<◌, ◌≤◌, arith, List, [], ◌∷◌, ◌++◌, append_assoc, append-nil, length, take, length-drop, drop, IfOk, MatchResult, drop-cons, add-one, Result, Ok, Err}, Math.ListN.drop_of_length-le, lemmas.{List.{drop-drop, take_rest}, Bool.false≢true}}
-use Rattle.std.specs.{Result.is_ok, declared.alloc.AllocError.AllocError}
+use Rattle.std.{proofs.{Common.{◌≡◌, ◌∙◌, ap, sym, refl, subst, ℕ, zero, suc, ◌+◌, ◌-◌, ◌<◌, ◌≤◌, arith, List, [], ◌∷◌, ◌++◌, append_assoc, append-nil, length, take, length-drop, drop, IfOk, MatchResult, drop-cons, add-one, Result, Ok, Err}, Math.ListN.drop_of_length-le, lemmas.{List.{drop-drop, take_rest}, Bool.false≢true}}, specs.{Result.is_ok, declared.alloc.AllocError.AllocError}}
 use Rattle.text_scan.specs.declared.{fault_kind.FaultKind.{FaultKind, TheVariants.Syntax}, word_fault.WordFault.WordFault}
-use Rattle.asm_text.specs.{declared.{piece.Piece.Piece, token.Token.Token}, Token.{piece_of, IsWithin, token_before, with_later, tokens_behind}}
-use Rattle.asm_text.proofs.Behind.{behind}
+use Rattle.asm_text.{specs.{declared.{piece.Piece.Piece, token.Token.Token}, Token.{piece_of, IsWithin, token_before, with_later, tokens_behind}}, proofs.Behind.behind}
 use Rattle.asm_text.specs.declared.piece.Piece.TheVariants as pieces
 
 -- What a call answered, where its refusal was passed on as another.

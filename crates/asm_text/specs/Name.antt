@@ -1,7 +1,5 @@
 -- The names of instructions and registers (SLAU049), in lower case.
-use Rattle.std.specs.Prelude.{ℕ, List, [], ◌∷◌, Option, Some, option_map, codes, if◌then◌else◌}
-use Rattle.std.specs.Option.{option_or}
-use Rattle.std.specs.Str.{bytes_eq}
+use Rattle.std.specs.{Prelude.{ℕ, List, [], ◌∷◌, Option, Some, option_map, codes, if◌then◌else◌}, Option.option_or, Str.bytes_eq}
 use Rattle.named_value.specs.Names.{Names, value_named}
 use Rattle.word_arith.specs.{declared.op2.Op2.{Op2, TheVariants.{Mov, Add, Addc, Subc, Sub, Cmp, Dadd, Bit, Bic, Bis, Xor, And}}}
 use Rattle.msp_decode.specs.{declared.{reg.Reg.{Reg, TheVariants.{R0, R1, R2, R3, R4, R5, R6, R7, R8, R9, R10, R11, R12, R13, R14, R15}}, one.One.{One, TheVariants.{Rrc, Swpb, Rra, Sxt, Push, Call}}, cond.Cond.{Cond, TheVariants.{Ne, Eq, Nc, C, N, Ge, L, Always}}}}

@@ -1,6 +1,5 @@
 -- Expressions and operands.
-use Rattle.std.specs.Prelude.{◌-◌, Bool, true, false, List, [], ◌∷◌, Option, Some, None, length, take, drop, map, Result, Ok, Err}
-use Rattle.std.specs.List.{slice_split}
+use Rattle.std.specs.{Prelude.{◌-◌, Bool, true, false, List, [], ◌∷◌, Option, Some, None, length, take, drop, map, Result, Ok, Err}, List.slice_split}
 use Rattle.text_scan.specs.{declared.fault_kind.FaultKind.{FaultKind, TheVariants.Syntax}, Reader.◌>>=◌}
 use Rattle.asm_text.specs.{declared.{operand.Operand.{Operand, TheVariants.{Reg, Imm, Abs, Indexed, Symbolic, Indirect, IndirectInc}}, term.Term.Term, token.Token.{Token, TheVariants.{Number, Register, Name, Here, Comma, Hash, Ampersand, At, Plus, Minus, Open, Close}}}, Expr.SignedTerm}
 use Rattle.asm_text.specs.declared.term.Term.TheVariants as terms

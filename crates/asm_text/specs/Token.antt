@@ -1,7 +1,5 @@
 -- The tokens of a line.
-use Rattle.std.specs.Prelude.{ℕ, ◌<◌, ◌≤◌, ◌+◌, ◌-◌, ◌==◌, Bool, not, ◌&&◌, List, [], ◌∷◌, Option, Some, None, zero, suc, length, take, slice_index, if◌then◌else◌, nat_le, Result, Ok, Err}
-use Rattle.std.specs.Char.{is_ascii_digit}
-use Rattle.std.specs.List.{position_or_len, before_first}
+use Rattle.std.specs.{Prelude.{ℕ, ◌<◌, ◌≤◌, ◌+◌, ◌-◌, ◌==◌, Bool, not, ◌&&◌, List, [], ◌∷◌, Option, Some, None, zero, suc, length, take, slice_index, if◌then◌else◌, nat_le, Result, Ok, Err}, Char.is_ascii_digit, List.{position_or_len, before_first}}
 use Rattle.msp_decode.specs.declared.reg.Reg.{Reg}
 use Rattle.text_scan.specs.{declared.fault_kind.FaultKind.{FaultKind, TheVariants.Syntax}, Word.is_blank}
 use Rattle.asm_text.specs.{declared.{operation.Operation.Operation, piece.Piece.Piece, token.Token.Token}, Word.{is_word_character, ends_word, is_name, number_of, operation_of, lower_case}, Name.register_of}

@@ -1,10 +1,5 @@
 -- Words: numbers, names, and the operations that they name.
-use Rattle.std.specs.Prelude.{ℕ, ◌==◌, ◌-◌, ◌&&◌, ◌||◌, Bool, not, List, [], ◌∷◌, Option, Some, None, length, take, drop, map, codes, slice_index, if◌then◌else◌, nat_lt, nat_le}
-use Rattle.std.specs.Char.{is_ascii_alphanumeric, is_ascii_digit, is_ascii_hexdigit, to_ascii_lowercase}
-use Rattle.std.specs.List.{list_all}
-use Rattle.std.specs.Option.{option_or}
-use Rattle.std.specs.Str.{bytes_eq}
-use Rattle.std.specs.Str.Parse.{digits_value}
+use Rattle.std.specs.{Prelude.{ℕ, ◌==◌, ◌-◌, ◌&&◌, ◌||◌, Bool, not, List, [], ◌∷◌, Option, Some, None, length, take, drop, map, codes, slice_index, if◌then◌else◌, nat_lt, nat_le}, Char.{is_ascii_alphanumeric, is_ascii_digit, is_ascii_hexdigit, to_ascii_lowercase}, List.list_all, Option.option_or, Str.{bytes_eq, Parse.digits_value}}
 use Rattle.word_arith.specs.declared.size.Size.TheVariants as sizes
 use Rattle.asm_text.specs.{declared.{mnemonic.Mnemonic.Mnemonic, operation.Operation.{Operation, TheVariants.{Instr, Org, Word, Byte, Ascii, Equ}}}, Form.{form_of, has_byte_form}, Name.mnemonic_of}
 

@@ -1,5 +1,4 @@
-ghost use Rattle.std.specs.Prelude.{◌≡◌};
-ghost use Rattle.std.specs.Option.{option_copied};
+ghost use Rattle.std.specs.{Prelude.◌≡◌, Option.option_copied};
 ghost use Rattle.asm_text.specs.Statement.{is_base, is_source, is_destination, is_doubled, is_modified, is_target, fits, instruction_of};
 
 use crate::body::Body;

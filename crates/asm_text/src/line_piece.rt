@@ -1,5 +1,4 @@
-ghost use Rattle.std.specs.Prelude.{◌≡◌, ◌+◌, ◌≤◌, length, IfOk};
-ghost use Rattle.std.specs.List.{position_or_len};
+ghost use Rattle.std.specs.{Prelude.{◌≡◌, ◌+◌, ◌≤◌, length, IfOk}, List.position_or_len};
 ghost use Rattle.asm_text.specs.{Word.{is_word_character, ends_word}, Token.{is_text_character, ends_text, text_piece, mark_piece, piece_of, IsWithin}};
 
 use crate::characters::Characters;

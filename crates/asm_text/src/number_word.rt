@@ -1,7 +1,4 @@
-ghost use Rattle.std.specs.Prelude.{◌≡◌, ◌≤◌};
-ghost use Rattle.std.specs.Char.{digit_value, is_ascii_digit, is_ascii_hexdigit};
-ghost use Rattle.std.specs.List.{list_all};
-ghost use Rattle.std.specs.Str.Parse.{digits_value};
+ghost use Rattle.std.specs.{Prelude.{◌≡◌, ◌≤◌}, Char.{digit_value, is_ascii_digit, is_ascii_hexdigit}, List.list_all, Str.Parse.digits_value};
 ghost use Rattle.asm_text.specs.Word.{small_number, numeral, number_of};
 
 /// The number of a word: a decimal, or `0x` and hexadecimal digits of either case; at most 65535.

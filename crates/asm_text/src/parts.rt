@@ -1,7 +1,4 @@
-ghost use Rattle.std.specs.Prelude.{◌≡◌, ◌∷◌, ◌≤◌, List, length};
-ghost use Rattle.std.specs.Option.{option_copied};
-ghost use Rattle.std.specs.Iterator.{YieldsFirstRef, item_count};
-ghost use Rattle.std.specs.List.{slice_split, position_or_len};
+ghost use Rattle.std.specs.{Prelude.{◌≡◌, ◌∷◌, ◌≤◌, List, length}, Option.option_copied, Iterator.{YieldsFirstRef, item_count}, List.{slice_split, position_or_len}};
 ghost use Rattle.asm_text.specs.{declared.token.Token.Token, Operand.{is_comma, parts_of, parts_behind}};
 
 use crate::token::Token;

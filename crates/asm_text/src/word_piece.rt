@@ -1,5 +1,4 @@
-ghost use Rattle.std.specs.Prelude.{◌≡◌, ◌<◌, length, IfOk};
-ghost use Rattle.std.specs.List.{list_all};
+ghost use Rattle.std.specs.{Prelude.{◌≡◌, ◌<◌, length, IfOk}, List.list_all};
 ghost use Rattle.asm_text.specs.{Word.{is_name, is_name_character}, Token.{number_piece, word_token, word_piece, IsWithin}};
 
 use crate::characters::Characters;

@@ -1,17 +1,13 @@
 -- The run that a debugger is given is that of its files.
-use Rattle.std.proofs.Common.{◌≡◌, ℕ, List, [], Option, refl, subst, arith}
-use Rattle.std.proofs.lemmas.List.{append-nil}
+use Rattle.std.proofs.{Common.{◌≡◌, ℕ, List, [], Option, refl, subst, arith}, lemmas.List.append-nil}
 use Rattle.hmac_core.specs.Hash.{Hash}
 use Rattle.mem_map.specs.{Image.{byte_in, image_byte}, declared.image.Image.Image}
 use Rattle.play_script.specs.Script.{TimedEvent, events_of}
 use Rattle.device_trace.specs.Start.{with_key}
-use Rattle.outside_edge.specs.declared.sink.Sink as sink
-use Rattle.outside_edge.specs.declared.source.Source as source
+use Rattle.outside_edge.specs.declared.{sink.Sink.Ghosts as SinkGhosts, source.Source.Ghosts as SourceGhosts}
 use Rattle.source_server.specs.declared.halt.Halt.TheVariants as halt
-use Rattle.source_server.specs.{declared.served.Served.TheVariants.Own, Serving.Serves}
-use Rattle.source_server.proofs.ServedPieces.{none_served}
-use Rattle.debug_link.specs.{declared.talk_end.TalkEnd.TheVariants.Memory}
-use Rattle.debug_link.proofs.Interrupts.{may-come, none-came}
+use Rattle.source_server.{specs.{declared.served.Served.TheVariants.Own, Serving.Serves}, proofs.ServedPieces.none_served}
+use Rattle.debug_link.{specs.declared.talk_end.TalkEnd.TheVariants.Memory, proofs.Interrupts.{may-come, none-came}}
 use Rattle.debug_session.specs.Place.{Run}
 use Rattle.debug_walk.specs.{Copies.played_run, Walk.second_flag, declared.run.Run.Run as GivenRun}
 use Rattle.device_debug.specs.{Session.StandsInRun, declared.run_debugger.RunDebugger.RunDebugger}
@@ -43,7 +39,7 @@ stands-first hash debugger run key image script key_is image_is script_is stands
     (played-files hash run key image script key_is image_is script_is) stands
 
 -- nothing was taken and put: there was no memory for a debugger
-pub none-served : {R W : Type 0} (r : source.Ghosts R) (w : sink.Ghosts W) (run : Run)
+pub none-served : {R W : Type 0} (r : SourceGhosts R) (w : SinkGhosts W) (run : Run)
     (left : Option ℕ) (source : R) (sink : W)
     → Serves r (debug_promise w run left sink) source source sink (Own Memory)
 none-served r w run left source sink =

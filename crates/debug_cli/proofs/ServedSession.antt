@@ -1,20 +1,15 @@
 -- What is answered once a source was served.
 use Rattle.std.proofs.Common.{◌≡◌, ◌<◌, ◌⊎◌, ℕ, List, length, Option, Some, refl, inl, inr, arith, ◌≤◌, Ok, Err, None, ⊎_elim}
-use Rattle.outside_edge.specs.{Calls.Rose, Shelf.KeepsFiles}
-use Rattle.source_server.specs.{declared.{halt.Halt.Halt, served.Served.Served}, Serving.{Ports, Serves, served_of}, Responder.Promise, Taken.{KeepsLimit, most_input}}
-use Rattle.source_server.proofs.ServedEnds.{keeps_limit, unwritten, whole_or_stopped}
+use Rattle.outside_edge.specs.{Calls.Rose, Shelf.KeepsFiles, declared.{sink.Sink.Ghosts as SinkGhosts, source.Source.Ghosts as SourceGhosts, shelf.Shelf.Ghosts as ShelfGhosts}}
+use Rattle.source_server.{specs.{declared.{halt.Halt.Halt, served.Served.Served}, Serving.{Ports, Serves, served_of}, Responder.Promise, Taken.{KeepsLimit, most_input}}, proofs.ServedEnds.{keeps_limit, unwritten, whole_or_stopped}}
 use Rattle.debug_link.specs.declared.talk_end.TalkEnd.{TalkEnd}
 use Rattle.device_live.specs.Conversation.{life_promise}
-use Rattle.input_files.specs.{declared.{status.Status.{Status, TheVariants.{Done, Words, Memory, Spent, ReadFault, WriteFault}}, refusal.Refusal.Refusal}, Reading.{Reaches, Reads, Files, IsRefusal}, Row.{RowOf, Ends}, Status.status_of_refusal}
+use Rattle.input_files.{specs.{declared.{status.Status.{Status, TheVariants.{Done, Words, Memory, Spent, ReadFault, WriteFault}}, refusal.Refusal.Refusal}, Reading.{Reaches, Reads, Files, IsRefusal}, Row.{RowOf, Ends}, Status.status_of_refusal}, proofs.Complete.{refused-complete, told-complete, refused-spent, refused-words}}
 use Rattle.debug_cli.specs.{Session.{Debugs, EndsWith, HasServed, Lives, Session, debug_promise, run_with, start_with, IsSessionAnswer}, Status.{status_of, talk_status}}
 use Rattle.play_script.specs.Script.{TimedEvent}
-use Rattle.input_files.proofs.Complete.{refused-complete, told-complete, refused-spent, refused-words}
-use Rattle.outside_edge.specs.declared.sink.Sink as sink
-use Rattle.outside_edge.specs.declared.source.Source as source
 use Rattle.source_server.specs.declared.halt.Halt.TheVariants as halt
 use Rattle.source_server.specs.declared.served.Served.TheVariants as served
 use Rattle.debug_link.specs.declared.talk_end.TalkEnd.TheVariants as talk
-use Rattle.outside_edge.specs.declared.shelf.Shelf as shelves
 
 abbrev pub IsFault : Status → Type 0
 IsFault status = (status ≡ ReadFault) ⊎ (status ≡ WriteFault)
@@ -56,7 +51,7 @@ module _ {Own : Type 0} (own_status : Own → Status) (ends : (own : Own) → Is
     ended-spent served.WriteFault is = absurd (cc is)
     ended-spent (served.Own own) is = absurd (end-spent (ends own) is)
 
-    module _ {R W : Type 0} (r : source.Ghosts R) (w : sink.Ghosts W) (promise : Promise W Own)
+    module _ {R W : Type 0} (r : SourceGhosts R) (w : SinkGhosts W) (promise : Promise W Own)
         (old new : Ports R W)
         (rose : (before last : List ℕ) → promise.stopped new.sink before last halt.Write
         → Rose (w.faults old.sink) (w.faults new.sink)) where
@@ -118,7 +113,7 @@ talk-end : (end : TalkEnd) → IsEnd (talk_status end)
 talk-end talk.Closed = inl refl
 talk-end talk.Memory = inr refl
 
-module _ {R W : Type 0} (r : source.Ghosts R) (w : sink.Ghosts W) (left : Option ℕ)
+module _ {R W : Type 0} (r : SourceGhosts R) (w : SinkGhosts W) (left : Option ℕ)
     (old new : Ports R W) (status : Status) where
   pub served-words : (session : Session) → HasServed r w left session old new status
       → status ≡ Words → ⊥
@@ -180,7 +175,7 @@ debug_end values = Ends (Ok (Debugs (run_with values.0 values.1.0 values.1.1)))
 abbrev pub live_end : List ℕ × (ℕ → Option ℕ) → RowOf Session
 live_end values = Ends (Ok (Lives (start_with values.0 values.1)))
 
-module _ {S R W : Type 0} (s : shelves.Ghosts S) (r : source.Ghosts R) (w : sink.Ghosts W)
+module _ {S R W : Type 0} (s : ShelfGhosts S) (r : SourceGhosts R) (w : SinkGhosts W)
     (shelf shelf_after : S) (left : Option ℕ) where
   pub refused-answer : {V : Type 0} (ports : Ports R W) (row : RowOf Session)
       (rest : V → RowOf Session) (refusal : Refusal)
@@ -245,8 +240,8 @@ refused-fault files missed failed row status (inr (inr (inl is))) no_read fault 
 refused-fault files missed failed row status (inr (inr (inr (bad, is, reaches)))) no_read fault =
     no-fault (λ read. cc (is, read)) (λ write. cc (is, write)) fault
 
-pub no-fault-of_run : {S R W : Type 0} (s : shelves.Ghosts S) (r : source.Ghosts R)
-    (w : sink.Ghosts W) (shelf shelf_after : S) (left : Option ℕ) (old new : Ports R W)
+pub no-fault-of_run : {S R W : Type 0} (s : ShelfGhosts S) (r : SourceGhosts R)
+    (w : SinkGhosts W) (shelf shelf_after : S) (left : Option ℕ) (old new : Ports R W)
     (command : Option (RowOf Session)) (status : Status)
     → IsSessionAnswer s r w shelf shelf_after left old new command status
     → ¬ Rose (s.faults shelf) (s.faults shelf_after)

@@ -2,7 +2,7 @@
 -- `live`, whose lines say what happens to a device.
 use Rattle.std.specs.Prelude.{◌≡◌, ◌<◌, ◌≤◌, ◌⊎◌, ◌↔◌, ℕ, List, [], ◌∷◌, bytes_eq, codes, length, Option, Some, None, IfSome, Ok, if◌then◌else◌}
 use Rattle.device_trace.specs.Start.{Start, with_key}
-use Rattle.outside_edge.specs.{Calls.Rose, Shelf.KeepsFiles}
+use Rattle.outside_edge.specs.{Calls.Rose, Shelf.KeepsFiles, declared.{shelf.Shelf.Ghosts as ShelfGhosts, sink.Sink.Ghosts as SinkGhosts, source.Source.Ghosts as SourceGhosts}}
 use Rattle.source_server.specs.{declared.served.Served.Served, Serving.{Ports, Serves}, Responder.Promise, Taken.{KeepsLimit, most_input}}
 use Rattle.debug_link.specs.{Serving.talk_promise, declared.talk_end.TalkEnd.TalkEnd}
 use Rattle.debug_session.specs.{Place.Run, Session.first_session}
@@ -15,9 +15,6 @@ use Rattle.part_definitions.specs.TrustedFlag.{aux}
 use Rattle.mem_map.specs.Image.{image_byte}
 use Rattle.play_script.specs.Script.{TimedEvent, events_of}
 use Rattle.sha2.specs.Sha256.{sha256}
-use Rattle.outside_edge.specs.declared.shelf.Shelf as shelves
-use Rattle.outside_edge.specs.declared.sink.Sink as sink
-use Rattle.outside_edge.specs.declared.source.Source as source
 
 -- What the files of a command give: a device at power-on, or a run of it for a debugger.
 
@@ -72,20 +69,20 @@ abbrev pub session_row_of : List (List ℕ) → Option (RowOf Session)
 session_row_of arguments = or_row (debug_row_of arguments) (live_row_of arguments)
 
 -- a source was served under a promise of what is put, and this is the answer to how that ended
-pub record EndsWith {R W Own : Type 0} (r : source.Ghosts R) (promise : Promise W Own)
+pub record EndsWith {R W Own : Type 0} (r : SourceGhosts R) (promise : Promise W Own)
     (answer_to : Served Own → Status) (old new : Ports R W) (status : Status) : Type 0 where
   pub ended : Served Own
   pub answer : status ≡ answer_to ended
   pub serves : Serves r promise old.source new.source new.sink ended
 
 -- what a debugger of a run promises, where it is told how many interrupts come or not
-abbrev pub debug_promise : {W : Type 0} → sink.Ghosts W → Run → Option ℕ → W → Promise W TalkEnd
+abbrev pub debug_promise : {W : Type 0} → SinkGhosts W → Run → Option ℕ → W → Promise W TalkEnd
 debug_promise w run left first =
     talk_promise w run_reply (record { session = first_of run; sink = first; left = left })
 
 -- what was put is the conversation of the bytes that the source gave, with no more interrupts than
 -- come, or a prefix of it; or there was no memory for a device, and nothing was taken or put
-abbrev pub HasServed : {R W : Type 0} → source.Ghosts R → sink.Ghosts W → Option ℕ → Session
+abbrev pub HasServed : {R W : Type 0} → SourceGhosts R → SinkGhosts W → Option ℕ → Session
     → Ports R W → Ports R W → Status → Type 0
 HasServed r w left (Debugs run) old new status =
     EndsWith r (debug_promise w run left old.sink) status_of_talk old new status
@@ -94,8 +91,8 @@ HasServed r w left (Lives start) old new status =
     ⊎ ((status ≡ Memory) × (new ≡ old))
 
 -- an answer to arguments that may spell a command, where it is told how many interrupts come or not
-pub record IsSessionAnswer {S R W : Type 0} (s : shelves.Ghosts S) (r : source.Ghosts R)
-    (w : sink.Ghosts W) (shelf shelf_after : S) (left : Option ℕ) (old new : Ports R W)
+pub record IsSessionAnswer {S R W : Type 0} (s : ShelfGhosts S) (r : SourceGhosts R)
+    (w : SinkGhosts W) (shelf shelf_after : S) (left : Option ℕ) (old new : Ports R W)
     (command : Option (RowOf Session)) (status : Status) : Type 0 where
   pub words : (status ≡ Words) ↔ (command ≡ None)
   pub unread : status ≡ Words → (shelf_after ≡ shelf) × (new ≡ old)

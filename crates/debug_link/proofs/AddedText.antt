@@ -1,10 +1,7 @@
 -- Text that is added behind a rest of text, one piece after the other.
-use Rattle.std.proofs.{Common.{◌≡◌, ◌≤◌, ◌<◌, ◌+◌, ◌∙◌, ◌++◌, ℕ, List, [], ◌∷◌, Result, Ok, Err, IsErr, refl, ap, sym, subst, append_assoc, length, take, arith, ◌-◌, zero, suc, drop}, lemmas.{Bool.false≢true, List.{append-nil, take_more, drop_all, length-drop, take_all}}, Math.Seq.{drop-append_seam, take-append_seam}}
-use Rattle.std.specs.Prelude.{slice_index, slice_set}
-use Rattle.outside_edge.specs.Sink.{TakesPrefix, Puts}
+use Rattle.std.{proofs.{Common.{◌≡◌, ◌≤◌, ◌<◌, ◌+◌, ◌∙◌, ◌++◌, ℕ, List, [], ◌∷◌, Result, Ok, Err, IsErr, refl, ap, sym, subst, append_assoc, length, take, arith, ◌-◌, zero, suc, drop}, lemmas.{Bool.false≢true, List.{append-nil, take_more, drop_all, length-drop, take_all}}, Math.Seq.{drop-append_seam, take-append_seam}}, specs.Prelude.{slice_index, slice_set}}
+use Rattle.outside_edge.{specs.{Sink.{TakesPrefix, Puts}, declared.sink.Sink.Ghosts as SinkGhosts}, proofs.SinkLemmas.{prefix_after, prefix_of_more, takes_both}}
 use Rattle.debug_link.specs.{Console.{AddsText, HasAdded, MOST_TEXT, console, text_body, console_bodies}, Packet.{packets_of, packet_of}, Writing.{HasPut, PacketSink, PutsPackets}, Conversation.last_packet}
-use Rattle.outside_edge.proofs.SinkLemmas.{prefix_after, prefix_of_more, takes_both}
-use Rattle.outside_edge.specs.declared.sink.Sink as sink
 use borrow.Rule.Slice.PartMut.{put_mid}
 
 -- Packets that are put one after the other.
@@ -26,7 +23,7 @@ last-both : (before : List ℕ) (xs ys : List (List ℕ))
 last-both before [] ys = refl
 last-both before (body ∷ xs) ys = last-both (packet_of body) xs ys
 
-module _ {W : Type 0} (w : sink.Ghosts W) where
+module _ {W : Type 0} (w : SinkGhosts W) where
   pub put_one : {V E : Type 0} (old new : PacketSink W) (body : List ℕ) (result : Result V E)
       → Puts w.stands old.sink new.sink (packet_of body) result → new.last ≡ packet_of body
       → PutsPackets w old new (body ∷ []) result
@@ -155,7 +152,7 @@ regrouped rest one two more =
     ∙ ap (λ (text : List ℕ). rest ++ text) (append_assoc one two more)
     ∙ sym (append_assoc rest one (two ++ more))
 
-module _ {W : Type 0} (w : sink.Ghosts W) where
+module _ {W : Type 0} (w : SinkGhosts W) where
   -- a prefix of the packets of a text was put
   abbrev pub PutsPrefix : PacketSink W → PacketSink W → List ℕ → Type 0
   PutsPrefix old new text = TakesPrefix w.stands old.sink new.sink (packets_of (console text))

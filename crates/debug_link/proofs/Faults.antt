@@ -1,9 +1,6 @@
 -- Faults that were counted since an earlier moment.
-use Rattle.std.proofs.Common.{◌≡◌, ◌≤◌, ◌∙◌, ℕ, Result, Ok, Err, IsErr, sym, arith}
-use Rattle.std.specs.Prelude.{IsErrAnd}
-use Rattle.std.proofs.lemmas.Bool.{false≢true}
-use Rattle.outside_edge.specs.{Calls.Rose, Sink.CountsFaults}
-use Rattle.outside_edge.proofs.Counts.{rose_since}
+use Rattle.std.{proofs.{Common.{◌≡◌, ◌≤◌, ◌∙◌, ℕ, Result, Ok, Err, IsErr, sym, arith}, lemmas.Bool.false≢true}, specs.Prelude.IsErrAnd}
+use Rattle.outside_edge.{specs.{Calls.Rose, Sink.CountsFaults}, proofs.Counts.rose_since}
 use Rattle.debug_link.specs.{Writing.CountsWriteFaults, declared.answer_fault.AnswerFault.{AnswerFault, TheVariants.Memory}}
 
 module _ {S : Type 0} (faults : S → ℕ) (old mid new : S) where

@@ -1,9 +1,6 @@
 -- How many interrupts came.
-use Rattle.std.proofs.Common.{◌≡◌, ◌≤◌, ◌+◌, ◌++◌, ◌∙◌, ℕ, List, [], ◌∷◌, Option, Some, None, refl, ap, subst, sym, arith}
-use Rattle.std.specs.Prelude.{option_map}
-use Rattle.std.proofs.lemmas.Option.{same_Some}
-use Rattle.debug_link.specs.Conversation.{HaveCome, Input, MayCome, count_of, interrupts_of}
-use Rattle.debug_link.proofs.Talks.{quiet}
+use Rattle.std.{proofs.{Common.{◌≡◌, ◌≤◌, ◌+◌, ◌++◌, ◌∙◌, ℕ, List, [], ◌∷◌, Option, Some, None, refl, ap, subst, sym, arith}, lemmas.Option.same_Some}, specs.Prelude.option_map}
+use Rattle.debug_link.{specs.Conversation.{HaveCome, Input, MayCome, count_of, interrupts_of}, proofs.Talks.quiet}
 
 pub none-came : (left : Option ℕ) → HaveCome 0 left left
 none-came None = record { came = 0; enough = omega arith; fewer = refl }

@@ -1,16 +1,12 @@
 -- What comes of a piece of packets, for whoever serves the source.
-use Rattle.std.proofs.Common.{◌≡◌, ◌++◌, ℕ, List, [], Ok, Err, refl, sym, arith}
-use Rattle.std.specs.Prelude.{Option, Result}
-use Rattle.std.proofs.lemmas.List.{append-nil}
-use Rattle.outside_edge.specs.declared.sink.Sink as sink
+use Rattle.std.{proofs.{Common.{◌≡◌, ◌++◌, ℕ, List, [], Ok, Err, refl, sym, arith}, lemmas.List.append-nil}, specs.Prelude.{Option, Result}}
+use Rattle.outside_edge.{specs.declared.sink.Sink.Ghosts as SinkGhosts, proofs.Counts.rose_since}
 use Rattle.source_server.specs.Responder.{Answers, Moment}
-use Rattle.debug_link.specs.{Conversation.{Answer, HaveCome, OfSomeTalk, Talk, conversation, first_talk, interrupts_of}, Link.Between, Reading.ReaderStandsFor, Serving.{GoesOnTo, StandsBehind, TalkStart, came_of, parties_at, parties_promise}, Writing.{CountsWriteFaults, PacketSink}, declared.{answer_fault.AnswerFault.AnswerFault, connection.Connection.{Connection, TheVariants.{Open, Closed}}, packet_responder.PacketResponder.PacketResponder}}
+use Rattle.debug_link.{specs.{Conversation.{Answer, HaveCome, OfSomeTalk, Talk, conversation, first_talk, interrupts_of}, Link.Between, Reading.ReaderStandsFor, Serving.{GoesOnTo, StandsBehind, TalkStart, came_of, parties_at, parties_promise}, Writing.{CountsWriteFaults, PacketSink}, declared.{answer_fault.AnswerFault.AnswerFault, connection.Connection.{Connection, TheVariants.{Open, Closed}}, packet_responder.PacketResponder.PacketResponder}}, proofs.{Interrupts.{came-both, may-come, none-came}, Parties.GoesOnBy, Talks.{bytes_both, inputs_both}}}
 use Rattle.debug_link.specs.declared.answer_fault.AnswerFault.TheVariants as fault
-use Rattle.outside_edge.proofs.Counts.{rose_since}
-use Rattle.debug_link.proofs.{Interrupts.{came-both, may-come, none-came}, Parties.GoesOnBy, Talks.{bytes_both, inputs_both}}
 
 module _ {T Session Interrupt W : Type 0} (stands : T → Session → Type 0) (left : T → Option ℕ)
-    (w : sink.Ghosts W) (reply : Option Interrupt → Session → List ℕ → Answer Session) where
+    (w : SinkGhosts W) (reply : Option Interrupt → Session → List ℕ → Answer Session) where
   -- before the first byte
   pub first_stands : (session : Session) (answerer : T)
       (first : Moment (PacketResponder T) (PacketSink W))

@@ -1,14 +1,8 @@
 -- How those who take part in a serving go on with a conversation, byte after byte.
-use Rattle.std.proofs.Common.{◌≡◌, ◌∙◌, ◌++◌, ◌+◌, ◌<◌, ℕ, true, false, List, [], ◌∷◌, Bool, Option, Some, None, Result, Ok, Err, IsErr, refl, ap, sym, subst, ⊎_elim}
-use Rattle.std.specs.Prelude.{is_some, length, nat_lt, slice_index, take}
-use Rattle.std.proofs.lemmas.Bool.{cases_Bool, false≢true}
-use Rattle.std.proofs.lemmas.List.{append-nil, take_more}
-use Rattle.outside_edge.specs.Sink.{Takes, TakesPrefix}
-use Rattle.outside_edge.specs.declared.sink.Sink as sink
-use Rattle.outside_edge.proofs.SinkLemmas.{prefix_after, prefix_of_more, takes_both}
-use Rattle.debug_link.specs.{Conversation.{LONGEST_BODY, Answer, HaveCome, Input, Talk, answer_to, talk_after_message, bytes_of, count_of, interrupts_of, mark_of, with_mark, with_answer, talk_with_byte, talk_with_inputs}, HeldBody.{HeldBody, short_body}, Link.{Message, Silence, Again, Damage, Whole, link_after, message_of}, Packet.{packet_of, packets_of}, Reading.{KeepsBody, ReaderStandsFor, heard_of}, Serving.{GoesOnTo, Parties, TalkStandsFor}, Writing.{Answers, PacketSink}, declared.{answer_fault.AnswerFault.AnswerFault, connection.Connection.{Connection, TheVariants.{Open, Closed}}, packet_reader.Heard.Heard}}
+use Rattle.std.{proofs.{Common.{◌≡◌, ◌∙◌, ◌++◌, ◌+◌, ◌<◌, ℕ, true, false, List, [], ◌∷◌, Bool, Option, Some, None, Result, Ok, Err, IsErr, refl, ap, sym, subst, ⊎_elim}, lemmas.{Bool.{cases_Bool, false≢true}, List.{append-nil, take_more}}}, specs.Prelude.{is_some, length, nat_lt, slice_index, take}}
+use Rattle.outside_edge.{specs.{Sink.{Takes, TakesPrefix}, declared.sink.Sink.Ghosts as SinkGhosts}, proofs.SinkLemmas.{prefix_after, prefix_of_more, takes_both}}
+use Rattle.debug_link.{specs.{Conversation.{LONGEST_BODY, Answer, HaveCome, Input, Talk, answer_to, talk_after_message, bytes_of, count_of, interrupts_of, mark_of, with_mark, with_answer, talk_with_byte, talk_with_inputs}, HeldBody.{HeldBody, short_body}, Link.{Message, Silence, Again, Damage, Whole, link_after, message_of}, Packet.{packet_of, packets_of}, Reading.{KeepsBody, ReaderStandsFor, heard_of}, Serving.{GoesOnTo, Parties, TalkStandsFor}, Writing.{Answers, PacketSink}, declared.{answer_fault.AnswerFault.AnswerFault, connection.Connection.{Connection, TheVariants.{Open, Closed}}, packet_reader.Heard.Heard}}, proofs.{Interrupts.{came-both, came-one, came-quiet, none-came}, Talks.{answered_more, bytes_both, closed_inputs, inputs_both, inputs_more, open_byte, quiet, quiet_bytes}}}
 use Rattle.debug_link.specs.declared.packet_reader.Heard.TheVariants as heard
-use Rattle.debug_link.proofs.{Interrupts.{came-both, came-one, came-quiet, none-came}, Talks.{answered_more, bytes_both, closed_inputs, inputs_both, inputs_more, open_byte, quiet, quiet_bytes}}
 
 abbrev is_whole : Heard → Bool
 is_whole heard.Silence = false
@@ -16,7 +10,7 @@ is_whole heard.Again = false
 is_whole heard.Damage = false
 is_whole heard.Whole = true
 
-module _ {T Session W : Type 0} (stands : T → Session → Type 0) (w : sink.Ghosts W) where
+module _ {T Session W : Type 0} (stands : T → Session → Type 0) (w : SinkGhosts W) where
   -- the mark that is due was put
   pub mark_put : (first : W) (old new : Parties T W) (talk : Talk Session) (byte : ℕ)
       → TalkStandsFor stands w first old talk
@@ -65,7 +59,7 @@ module _ {T Session W : Type 0} (stands : T → Session → Type 0) (w : sink.Gh
             (packets_of answer.packets) so.put put.prefix;
       }
 
-module _ {T Session W : Type 0} (stands : T → Session → Type 0) (w : sink.Ghosts W)
+module _ {T Session W : Type 0} (stands : T → Session → Type 0) (w : SinkGhosts W)
     (reply : Session → List ℕ → Answer Session) where
   -- the mark that is due could not be put
   pub mark_failed : (first : W) (old new : Parties T W) (talk : Talk Session) (byte : ℕ)
@@ -151,7 +145,7 @@ module _ {T Session W : Type 0} (stands : T → Session → Type 0) (w : sink.Gh
       })
 
 module _ {T Session Interrupt W : Type 0} (stands : T → Session → Type 0) (left : T → Option ℕ)
-    (w : sink.Ghosts W) (reply : Option Interrupt → Session → List ℕ → Answer Session) where
+    (w : SinkGhosts W) (reply : Option Interrupt → Session → List ℕ → Answer Session) where
   -- as many interrupts have come from one moment to another
   abbrev Came : ℕ → Parties T W → Parties T W → Type 0
   Came count old new = HaveCome count (left old.answerer) (left new.answerer)

@@ -1,7 +1,5 @@
 -- What comes, and what more of it adds to a conversation.
-use Rattle.std.proofs.Common.{◌≡◌, ◌∙◌, ◌++◌, ℕ, true, false, List, [], ◌∷◌, None, Option, map, refl, ap, sym, append_assoc, ⊎_elim}
-use Rattle.std.proofs.lemmas.Bool.{cases_Bool}
-use Rattle.std.proofs.lemmas.List.{append-nil, map-append}
+use Rattle.std.proofs.{Common.{◌≡◌, ◌∙◌, ◌++◌, ℕ, true, false, List, [], ◌∷◌, None, Option, map, refl, ap, sym, append_assoc, ⊎_elim}, lemmas.{Bool.cases_Bool, List.{append-nil, map-append}}}
 use Rattle.debug_link.specs.{Conversation.{Answer, Input, Talk, answer_to, talk_after_message, bytes_of, mark_of, with_mark, talk_with_byte, talk_with_inputs}, Link.{Message, Silence, Again, Damage, Whole, message_of}, Packet.packets_of}
 
 module _ {Session : Type 0} (reply : Session → List ℕ → Answer Session) where

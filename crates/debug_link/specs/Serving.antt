@@ -1,19 +1,18 @@
 -- What is put into a sink of the bytes that a source gives, and why it ends.
 use Rattle.std.specs.Prelude.{◌≡◌, ◌≤◌, ◌++◌, ℕ, false, List, Option, Result, Ok, Err, OnErr, IfOk, IsTrue}
-use Rattle.outside_edge.specs.{Calls.Rose, Sink.{Takes, TakesPrefix}}
-use Rattle.outside_edge.specs.declared.sink.Sink as sink
+use Rattle.outside_edge.specs.{Calls.Rose, Sink.{Takes, TakesPrefix}, declared.sink.Sink.Ghosts as SinkGhosts}
 use Rattle.source_server.specs.{declared.halt.Halt.{Halt, TheVariants.{Write, Own}}, Responder.{Moment, Promise}}
 use Rattle.debug_link.specs.{Conversation.{Answer, HaveCome, MayCome, OfSomeTalk, Talk, is_closed}, Reading.ReaderStandsFor, Writing.PacketSink, declared.{answer_fault.AnswerFault.AnswerFault, connection.Connection.Connection, packet_reader.PacketReader.PacketReader, packet_responder.PacketResponder.PacketResponder, talk_end.TalkEnd.{TalkEnd, TheVariants.{Closed, Memory}}}}
 use Rattle.debug_link.specs.declared.answer_fault.AnswerFault.TheVariants as fault
 use Rattle.debug_link.specs.declared.connection.Connection.TheVariants as connection
 
 -- a conversation was put, and is not over
-abbrev pub PutsTalk : {W Session : Type 0} → sink.Ghosts W → W → W → Talk Session → Type 0
+abbrev pub PutsTalk : {W Session : Type 0} → SinkGhosts W → W → W → Talk Session → Type 0
 PutsTalk w old new talk = Takes w.stands old new talk.put × (talk.is_over ≡ false)
 
 -- the debugger has ended it, and it was put; or the sink failed or memory ran out, and a prefix of
 -- it was put
-abbrev pub StopsTalk : {W Session : Type 0} → sink.Ghosts W → W → W → Talk Session
+abbrev pub StopsTalk : {W Session : Type 0} → SinkGhosts W → W → W → Talk Session
     → Halt TalkEnd → Type 0
 StopsTalk w old new talk (Own Closed) =
     Takes w.stands old new talk.put × IsTrue talk.is_over
@@ -29,7 +28,7 @@ pub record TalkStart (Session W : Type 0) : Type 0 where
 
 -- What a sink has taken, behind bytes that a source gave: their conversation, from where the
 -- answerer's session stood, with no more interrupts than come.
-abbrev pub talk_promise : {W Session Interrupt : Type 0} → sink.Ghosts W
+abbrev pub talk_promise : {W Session Interrupt : Type 0} → SinkGhosts W
     → (Option Interrupt → Session → List ℕ → Answer Session) → TalkStart Session W
     → Promise W TalkEnd
 talk_promise w reply start =
@@ -51,14 +50,14 @@ pub record Parties (T W : Type 0) : Type 0 where
 
 -- they stand for a conversation so far, which was put since the sink stood so
 pub record TalkStandsFor {T Session W : Type 0} (stands : T → Session → Type 0)
-    (w : sink.Ghosts W) (first : W) (parties : Parties T W) (talk : Talk Session) : Type 0 where
+    (w : SinkGhosts W) (first : W) (parties : Parties T W) (talk : Talk Session) : Type 0 where
   pub reads : ReaderStandsFor parties.reader talk.link
   pub session : stands parties.answerer talk.session
   pub last : parties.packets.last ≡ talk.last
   pub put : Takes w.stands first parties.packets.sink talk.put
 
 -- they go on to this conversation, or a prefix of it was put
-pub record GoesOnTo {T Session W : Type 0} (stands : T → Session → Type 0) (w : sink.Ghosts W)
+pub record GoesOnTo {T Session W : Type 0} (stands : T → Session → Type 0) (w : SinkGhosts W)
     (first : W) (parties : Parties T W) (talk : Talk Session)
     (result : Result Connection AnswerFault) : Type 0 where
   pub all : IfOk result (λ connection.
@@ -82,14 +81,14 @@ parties_at now =
 
 -- the parties stand for the conversation of these bytes, which goes on
 pub record StandsBehind {T Session W : Type 0} (stands : T → Session → Type 0)
-    (w : sink.Ghosts W) (first : W) (parties : Parties T W) (talk : Talk Session) : Type 0 where
+    (w : SinkGhosts W) (first : W) (parties : Parties T W) (talk : Talk Session) : Type 0 where
   pub talks : TalkStandsFor stands w first parties talk
   pub goes_on : talk.is_over ≡ false
   pub rises : w.faults first ≤ w.faults parties.packets.sink
 
 -- what is promised of the parties
 abbrev pub parties_promise : {T Session Interrupt W : Type 0} → (T → Session → Type 0)
-    → (T → Option ℕ) → sink.Ghosts W → (Option Interrupt → Session → List ℕ → Answer Session)
+    → (T → Option ℕ) → SinkGhosts W → (Option Interrupt → Session → List ℕ → Answer Session)
     → TalkStart Session W → Promise (Moment (PacketResponder T) (PacketSink W)) TalkEnd
 parties_promise stands left w reply start =
     let talk = talk_promise w reply start in

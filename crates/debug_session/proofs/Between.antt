@@ -1,7 +1,5 @@
 -- What it says that a place lies between two others.
-use Rattle.std.proofs.Common.{◌≡◌, ◌≤◌, ℕ, true}
-use Rattle.std.specs.Prelude.{max, min, nat_le}
-use Rattle.std.proofs.lemmas.Bool.{and_from, and_parts, le-leb, leb-true}
+use Rattle.std.{proofs.{Common.{◌≡◌, ◌≤◌, ℕ, true}, lemmas.Bool.{and_from, and_parts, le-leb, leb-true}}, specs.Prelude.{max, min, nat_le}}
 use Rattle.debug_session.specs.Going.{lies_between}
 
 pub between-is : (one other at : ℕ) → lies_between one other at ≡ true

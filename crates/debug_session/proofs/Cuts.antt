@@ -1,6 +1,5 @@
 -- What stands before and behind the first byte of a sort.
-use Rattle.std.proofs.Common.{◌≡◌, ◌∙◌, ap, sym, ℕ, ◌+◌, arith, Bool, List, [], length, take, drop, take_all, drop_of_length-le}
-use Rattle.std.specs.List.{after_first, before_first, position_or_len}
+use Rattle.std.{proofs.Common.{◌≡◌, ◌∙◌, ap, sym, ℕ, ◌+◌, arith, Bool, List, [], length, take, drop, take_all, drop_of_length-le}, specs.List.{after_first, before_first, position_or_len}}
 
 pub before_is : (test : ℕ → Bool) (text : List ℕ) (at : ℕ) → position_or_len test text ≡ at
     → take at text ≡ before_first test text

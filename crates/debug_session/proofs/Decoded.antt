@@ -1,6 +1,5 @@
 -- What is read where digits are decoded into room of the right size.
-use Rattle.std.proofs.{Common.{◌≡◌, ◌∙◌, refl, ℕ, ◌/◌, List, length, ap, sym, eq-eqb, Option, Some, None, Result, Ok, Err, ◌+◌, ◌*◌, ◌^◌, ◌<◌, ◌≤◌, arith, take, get_or, true}, Math.Nat.{pow-le-pow_right, pow-suc}, lemmas.{Bool.and_parts, List.Sums.AllPass-from_list_all, Int.Digits.digits_value_more}}
-use Rattle.std.specs.{Prelude.{MatchResult, nat_lt}, Char.{digit_value, is_digit}, Str.Parse.digits_value}
+use Rattle.std.{proofs.{Common.{◌≡◌, ◌∙◌, refl, ℕ, ◌/◌, List, length, ap, sym, eq-eqb, Option, Some, None, Result, Ok, Err, ◌+◌, ◌*◌, ◌^◌, ◌<◌, ◌≤◌, arith, take, get_or, true}, Math.Nat.{pow-le-pow_right, pow-suc}, lemmas.{Bool.and_parts, List.Sums.AllPass-from_list_all, Int.Digits.digits_value_more}}, specs.{Prelude.{MatchResult, nat_lt}, Char.{digit_value, is_digit}, Str.Parse.digits_value}}
 use Rattle.hex.specs.{Hex.{decode_of, decode_sized}, declared.error.FromHexError.FromHexError}
 use Rattle.text_scan.specs.Word.{words_of}
 use Rattle.debug_session.specs.{Request.{request_in, request_of, request_where}, declared.request.Request.Request, Number.{are_hex_digits, is_hex_word}}

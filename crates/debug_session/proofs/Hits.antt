@@ -1,6 +1,5 @@
 -- First and last hits of lists that are put together.
-use Rattle.std.proofs.Common.{◌≡◌, refl, List, [], ◌∷◌, ◌++◌, Option, Some}
-use Rattle.std.specs.Option.{option_or}
+use Rattle.std.{proofs.Common.{◌≡◌, refl, List, [], ◌∷◌, ◌++◌, Option, Some}, specs.Option.option_or}
 use Rattle.debug_session.specs.{Watched.{first_hit, last_hit}, declared.watch.Hit.Hit}
 
 pub first_of_both : (xs ys : List Hit)

@@ -1,6 +1,5 @@
 -- Where a scan over places ends.
-use Rattle.std.proofs.Common.{◌≡◌, ◌≤◌, ◌<◌, ◌+◌, ◌∙◌, ⊎_elim, ℕ, zero, suc, Option, Some, None, refl, ap, sym, subst, arith}
-use Rattle.std.proofs.lemmas.Bool.{cases_lt}
+use Rattle.std.proofs.{Common.{◌≡◌, ◌≤◌, ◌<◌, ◌+◌, ◌∙◌, ⊎_elim, ℕ, zero, suc, Option, Some, None, refl, ap, sym, subst, arith}, lemmas.Bool.cases_lt}
 use Rattle.debug_session.specs.{declared.stop.Stop.{Stop, TheVariants.{Begin, End}}, Going.{Standing, first_stop, last_stop, standing_at}}
 
 module _ (cause : ℕ → Option Stop) where

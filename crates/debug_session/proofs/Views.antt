@@ -1,8 +1,5 @@
 -- A view shows the places of its run up to the last, and each step before it.
-use Rattle.std.proofs.Common.{◌≡◌, ◌≤◌, ◌<◌, ◌∙◌, ℕ, ap, arith}
-use Rattle.std.specs.Prelude.{nat_lt}
-use Rattle.std.proofs.Math.Nat.{min-eq_left}
-use Rattle.std.proofs.lemmas.Bool.{cond-true, lt-ltb}
+use Rattle.std.{proofs.{Common.{◌≡◌, ◌≤◌, ◌<◌, ◌∙◌, ℕ, ap, arith}, Math.Nat.min-eq_left, lemmas.Bool.{cond-true, lt-ltb}}, specs.Prelude.nat_lt}
 use Rattle.debug_session.specs.{Request.most_steps, Place.{Run, no_step, sight_at, step_sight, view_of}, Sight.Sight}
 
 module _ (run : Run) where

@@ -1,7 +1,5 @@
 -- The actions that let a device go on: `c`, `s`, the same with a signal, and `r` of `vCont`.
-use Rattle.std.specs.Prelude.{ℕ, ◌==◌, ◌&&◌, ◌||◌, Bool, List, Option, Some, None, codes, drop, is_some, length, take, if◌then◌else◌}
-use Rattle.std.specs.Str.{bytes_eq}
-use Rattle.std.specs.List.{before_first}
+use Rattle.std.specs.{Prelude.{ℕ, ◌==◌, ◌&&◌, ◌||◌, Bool, List, Option, Some, None, codes, drop, is_some, length, take, if◌then◌else◌}, Str.bytes_eq, List.before_first}
 use Rattle.debug_session.specs.{Number.{number_of, two_numbers}, declared.command.{Command.{Command, TheVariants.{Go, Refused}}, Going.{Going, TheVariants.{On, Step, Range}}, Way.TheVariants.Ahead}}
 
 -- what stands behind this beginning, where a body begins so

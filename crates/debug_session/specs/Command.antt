@@ -1,7 +1,5 @@
 -- What the body of a packet asks for, in the words of GDB's remote serial protocol.
-use Rattle.std.specs.Prelude.{ℕ, ◌==◌, Bool, true, false, List, [], ◌∷◌, Option, Some, None, codes, nat_eq, nat_lt, if◌then◌else◌}
-use Rattle.std.specs.Str.{bytes_eq}
-use Rattle.std.specs.List.{list_any, starts_with}
+use Rattle.std.specs.{Prelude.{ℕ, ◌==◌, Bool, true, false, List, [], ◌∷◌, Option, Some, None, codes, nat_eq, nat_lt, if◌then◌else◌}, Str.bytes_eq, List.{list_any, starts_with}}
 use Rattle.debug_session.specs.{declared.{stop_change.StopChange.TheVariants.{SetBreakpoint, ClearBreakpoint, SetWatch, ClearWatch}, watch.{Watch.Watch, WatchKind.WatchKind}, command.{Command.{Command, TheVariants.{Supported, LastStop, Attached, Registers, Memory, Change, Actions, Go, Monitor, Detach, Kill, Refused, Unknown}}, Way.TheVariants.Back}, request.Request.Request}, Action.{action_of, behind, first_action}, Number.{before_comma, behind_comma, number_of, two_numbers}, Request.request_in}
 use Rattle.debug_session.specs.declared.watch.WatchKind.TheVariants as watch
 use Rattle.debug_session.specs.declared.command.Going.TheVariants as going

@@ -1,6 +1,5 @@
 -- The commands of a user behind `monitor`, and their texts.
-use Rattle.std.specs.Prelude.{ℕ, ◌++◌, ◌-◌, zero, suc, List, [], codes, min}
-use Rattle.std.specs.Fmt.{decimal}
+use Rattle.std.specs.{Prelude.{ℕ, ◌++◌, ◌-◌, zero, suc, List, [], codes, min}, Fmt.decimal}
 use Rattle.printed_lines.specs.Line.{flag_digit}
 use Rattle.debug_session.specs.{Request.most_steps, declared.request.Request.{Request, TheVariants.{Steps, Flags, Play as PlayText, Trace, Until, Help, Other}}, Sight.{Sight, StepSight, View}}
 

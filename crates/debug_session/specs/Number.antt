@@ -1,8 +1,5 @@
 -- Numbers in the bodies of packets: one to eight hexadecimal digits of either case.
-use Rattle.std.specs.Prelude.{ℕ, ◌==◌, ◌&&◌, Bool, List, Option, Some, None, length, nat_lt, if◌then◌else◌}
-use Rattle.std.specs.Char.{is_digit}
-use Rattle.std.specs.List.{after_first, before_first, list_all}
-use Rattle.std.specs.Str.Parse.{digits_value}
+use Rattle.std.specs.{Prelude.{ℕ, ◌==◌, ◌&&◌, Bool, List, Option, Some, None, length, nat_lt, if◌then◌else◌}, Char.is_digit, List.{after_first, before_first, list_all}, Str.Parse.digits_value}
 
 abbrev pub are_hex_digits : List ℕ → Bool
 are_hex_digits word = list_all (λ byte. is_digit byte 16) word

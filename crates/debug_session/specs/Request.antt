@@ -1,8 +1,6 @@
 -- The commands of a user behind GDB's `monitor`, which come in hexadecimal digits.
-use Rattle.std.specs.Prelude.{ℕ, List, Option, Some, None, Result, Ok, Err, codes, if◌then◌else◌}
-use Rattle.std.specs.Str.{bytes_eq}
-use Rattle.hex.specs.Hex.{decode_of}
-use Rattle.hex.specs.declared.error.FromHexError.{FromHexError}
+use Rattle.std.specs.{Prelude.{ℕ, List, Option, Some, None, Result, Ok, Err, codes, if◌then◌else◌}, Str.bytes_eq}
+use Rattle.hex.specs.{Hex.decode_of, declared.error.FromHexError.FromHexError}
 use Rattle.text_scan.specs.{Decimal.decimal_of, Word.{end_of, next_word, words_of}, declared.fault_kind.FaultKind.FaultKind}
 use Rattle.debug_session.specs.{declared.request.Request.{Request, TheVariants.{Steps, Flags, Play, Trace, Until, Help, Other}}}
 

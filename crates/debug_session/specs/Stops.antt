@@ -1,6 +1,5 @@
 -- What is asked to stop a device: breakpoints, watches, and a number of steps.
-use Rattle.std.specs.Prelude.{ℕ, ◌==◌, ◌&&◌, ◌++◌, Bool, true, false, List, [], ◌∷◌, Option, Some, None, is_none, length, nat_lt, not, if◌then◌else◌}
-use Rattle.std.specs.List.{filter, list_any}
+use Rattle.std.specs.{Prelude.{ℕ, ◌==◌, ◌&&◌, ◌++◌, Bool, true, false, List, [], ◌∷◌, Option, Some, None, is_none, length, nat_lt, not, if◌then◌else◌}, List.{filter, list_any}}
 use Rattle.debug_session.specs.{declared.{stop_change.StopChange.{StopChange, TheVariants.{SetBreakpoint, ClearBreakpoint, SetWatch, ClearWatch}}, watch.{Watch.Watch, WatchKind.{WatchKind, TheVariants.{Write, Read, Either}}}}}
 
 pub record Stops : Type 0 where

@@ -1,7 +1,6 @@
 -- The accesses of a step that hit watched bytes. As GDB's manual has it, a watchpoint stops at a
 -- write of its bytes, a read watchpoint at a read, an access watchpoint at either.
-use Rattle.std.specs.Prelude.{ℕ, ◌&&◌, ◌++◌, ◌+◌, Bool, true, List, [], ◌∷◌, Option, Some, None, is_some, nat_le, nat_lt, if◌then◌else◌}
-use Rattle.std.specs.List.{list_any}
+use Rattle.std.specs.{Prelude.{ℕ, ◌&&◌, ◌++◌, ◌+◌, Bool, true, List, [], ◌∷◌, Option, Some, None, is_some, nat_le, nat_lt, if◌then◌else◌}, List.list_any}
 use Rattle.word_arith.specs.declared.size.Size.TheVariants.{Word}
 use Rattle.device_types.specs.{declared.{access.Access.{Access, TheVariants.{Fetch, Write}}, bus_record.BusRecord.BusRecord}, Access.{bytes_of, is_read, is_write}, Map.{AUX_WORD, EXEC_WORD}}
 use Rattle.debug_session.specs.{declared.{seen_accesses.SeenAccesses.SeenAccesses, watch.{Hit.Hit, Watch.Watch, WatchKind.WatchKind}}}

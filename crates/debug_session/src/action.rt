@@ -1,5 +1,4 @@
-ghost use Rattle.std.specs.Prelude.{◌≡◌, ◌<◌, ◌≤◌, ℕ, length, slice_index, true, false, option_map, IfSome};
-ghost use Rattle.std.specs.List.{before_first};
+ghost use Rattle.std.specs.{Prelude.{◌≡◌, ◌<◌, ◌≤◌, ℕ, length, slice_index, true, false, option_map, IfSome}, List.before_first};
 ghost use Rattle.debug_session.specs.{Action.{action_of, behind, ends_action, first_action, is_signal, range_command, going_with_signal, signalled_action}, Number.two_numbers};
 
 use crate::command::{Command, Going, Way};

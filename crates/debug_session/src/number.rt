@@ -1,6 +1,4 @@
-ghost use Rattle.std.specs.Prelude.{◌≡◌, ◌<◌, ◌≤◌, ℕ, length, slice_index, true, false};
-ghost use Rattle.std.specs.Char.{digit_value, is_digit};
-ghost use Rattle.std.specs.Str.Parse.{digits_value};
+ghost use Rattle.std.specs.{Prelude.{◌≡◌, ◌<◌, ◌≤◌, ℕ, length, slice_index, true, false}, Char.{digit_value, is_digit}, Str.Parse.digits_value};
 ghost use Rattle.debug_session.specs.Number.{are_hex_digits, behind_comma, before_comma, is_comma, is_hex_word, number_of, two_numbers};
 
 // The most digits of a number.

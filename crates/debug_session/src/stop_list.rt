@@ -1,5 +1,4 @@
-ghost use Rattle.std.specs.Prelude.{◌≡◌, ◌==◌, MatchOption, true, false, not};
-ghost use Rattle.std.specs.List.{filter};
+ghost use Rattle.std.specs.{Prelude.{◌≡◌, ◌==◌, MatchOption, true, false, not}, List.filter};
 ghost use Rattle.debug_session.specs.{Stops.{no_stops, has_breakpoint, has_watch, is_empty, same_watch, with_change}, Watched.is_hit};
 
 use crate::seen_accesses::hit_by;

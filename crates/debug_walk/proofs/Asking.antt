@@ -1,6 +1,5 @@
 -- A step that has no access is one of sleep.
-use Rattle.std.proofs.Common.{◌≡◌, ◌∙◌, ℕ, true, List, Option, None, Some, is_some, length, refl, ap, sym, subst}
-use Rattle.std.proofs.lemmas.Bool.{cond_both, false≢true}
+use Rattle.std.proofs.{Common.{◌≡◌, ◌∙◌, ℕ, true, List, Option, None, Some, is_some, length, refl, ap, sym, subst}, lemmas.Bool.{cond_both, false≢true}}
 use Rattle.device_types.specs.declared.{access.Access.Access, bus_record.BusRecord.BusRecord, kind.Kind.{Kind, TheVariants.{Boot, Cpu, Idle, Irq, Rom}}, rule.Rule.Rule}
 use Rattle.part_definitions.specs.{Attestation.{call_item, is_return, word_passed}, CpuRegister.{Registers, clear_registers, after_pop, with_pc}, CpuState.{CpuState, Boundary, Executing, Entering, ask_of, completion_or, cpu_access, cpu_after, cpu_next, entry_begun, with_value}, NextAccess.{Next, Asks, Completes, entry_access, next_access}}
 use Rattle.device_trace.specs.{Logs.vector_of, Trace.{Play, logs_after}, Progress.{Progress, Held, Runs, InCall, access_of, after_return, call_after, next_progress, progress_from_boundary, progress_within}, Signals.step_kind, Start.Start, Step.access_recorded}

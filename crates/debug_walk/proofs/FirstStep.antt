@@ -1,14 +1,10 @@
 -- The boot hits no watch where it is refused.
-use Rattle.std.proofs.Common.{◌≡◌, ◌∙◌, ◌++◌, ℕ, Bool, true, false, List, [], ◌∷◌, Option, Some, None, refl, ap, sym, arith}
-use Rattle.std.specs.Prelude.{◌==◌, ◌&&◌, is_some, if◌then◌else◌}
-use Rattle.std.specs.List.{list_any}
-use Rattle.std.proofs.lemmas.Bool.{cond-true, false≢true}
+use Rattle.std.{proofs.{Common.{◌≡◌, ◌∙◌, ◌++◌, ℕ, Bool, true, false, List, [], ◌∷◌, Option, Some, None, refl, ap, sym, arith}, lemmas.Bool.{cond-true, false≢true}}, specs.{Prelude.{◌==◌, ◌&&◌, is_some, if◌then◌else◌}, List.list_any}}
 use Rattle.hmac_core.specs.Hash.{Hash}
 use Rattle.device_types.specs.{declared.{access.Access.Access, kind.Kind.{Kind, TheVariants.Boot}, rule.Rule.Rule}, Bounds.are_valid, ExecFlag.{clears, exec, fetches_at, is_set, starts_run, SeenRecord}, Kind.is_cpu, Map.{AUX_WORD, EXEC_WORD}}
 use Rattle.part_definitions.specs.TrustedFlag.{aux, clears_aux}
 use Rattle.device_trace.specs.{Blank.blank_seen, Logs.{logged_bounds, power_on_logs, progress_after, with_events, with_record}, Progress.{Held, stands_at_boundary}, Signals.signals_at, Step.{next_record, record_of}, Trace.logs_after}
-use Rattle.debug_session.specs.{Watched.{data_access, flag_access, hits_by, made_access}, declared.{watch.{Hit.Hit, Watch.Watch}, command.Way.TheVariants.{Ahead, Back}}, Cause.{behind, hit_on, hits}, Place.{Run, aux_at, differs, exec_at, logs_at, sight_at, step_at, step_sight, view_of}, Sight.{Sight, StepSight}}
-use Rattle.debug_session.proofs.Views.{next-at}
+use Rattle.debug_session.{specs.{Watched.{data_access, flag_access, hits_by, made_access}, declared.{watch.{Hit.Hit, Watch.Watch}, command.Way.TheVariants.{Ahead, Back}}, Cause.{behind, hit_on, hits}, Place.{Run, aux_at, differs, exec_at, logs_at, sight_at, step_at, step_sight, view_of}, Sight.{Sight, StepSight}}, proofs.Views.next-at}
 use Rattle.debug_walk.specs.{Copies.played_run, Walk.IsStretch, declared.{run.Run.Run as GivenRun, stretch.Stretch.Stretch}}
 
 -- a boot starts no run

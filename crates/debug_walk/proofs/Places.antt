@@ -1,11 +1,9 @@
 -- The step at a place, and where it leads.
-use Rattle.std.proofs.{Common.{◌≡◌, ℕ, suc, length, refl, ◌<◌, ◌∙◌, true, None, ap}, lemmas.Bool.{cond-true, lt-ltb}}
+use Rattle.std.{proofs.{Common.{◌≡◌, ℕ, suc, length, refl, ◌<◌, ◌∙◌, true, None, ap}, lemmas.Bool.{cond-true, lt-ltb}}, specs.Prelude.nat_lt}
 use Rattle.device_types.specs.declared.bus_record.BusRecord.{BusRecord}
 use Rattle.device_trace.specs.{Progress.{level_after, Held, access_of, kind_of, progress_within}, Logs.{Logs, progress_after, vector_of, with_events, with_record}, Signals.signals_at, Step.{access_recorded, next_record, record_of}, Trace.{logs_after, trace}}
 use Rattle.debug_session.specs.{Place.{Run, logs_at, step_at, no_step, play_to, sight_at, step_sight}, Request.most_steps, Sight.StepSight}
-use Rattle.std.specs.Prelude.{nat_lt}
-use Rattle.device_core.specs.Silence.{is_silent}
-use Rattle.device_core.proofs.Idle.{silent-parts}
+use Rattle.device_core.{specs.Silence.is_silent, proofs.Idle.silent-parts}
 use Rattle.device_play.proofs.GoesOn.{silent-lines}
 use Rattle.debug_walk.specs.Passing.{IsSilent}
 

@@ -1,15 +1,12 @@
 -- What a step that a row goes over does at its place, and where a row may go on.
-use Rattle.std.proofs.Common.{◌≡◌, ◌<◌, ◌∙◌, ⊎_elim, ℕ, suc, Bool, true, false, not, List, [], ◌∷◌, Option, None, Some, refl, ap, sym, subst, arith}
-use Rattle.std.specs.Prelude.{◌==◌, ◌&&◌, ◌||◌, is_some, if◌then◌else◌}
-use Rattle.std.proofs.lemmas.Bool.{and_parts, false≢true}
+use Rattle.std.{proofs.{Common.{◌≡◌, ◌<◌, ◌∙◌, ⊎_elim, ℕ, suc, Bool, true, false, not, List, [], ◌∷◌, Option, None, Some, refl, ap, sym, subst, arith}, lemmas.Bool.{and_parts, false≢true}}, specs.Prelude.{◌==◌, ◌&&◌, ◌||◌, is_some, if◌then◌else◌}}
 use Rattle.device_types.specs.{Address.even, Map.ROM_ENTRY, declared.{access.Access.{Access, TheVariants.{Fetch, Read, Write}}, bus_record.BusRecord.BusRecord, event.Event.Event, kind.Kind.TheVariants.{Cpu, Idle, Irq, Rom}}}
 use Rattle.part_definitions.specs.{CpuRegister.{Registers, is_asleep, pc_of}, CpuState.{Boundary, Executing, Entering}, MonitorRule.in_rom, Memory.ShownFlags}
 use Rattle.device_trace.specs.{Progress.{level_after, Progress, Held, Runs, InCall, boundary_kind, kind_of, last_registers, progress_within, stands_at_boundary}, Logs.{progress_after, vector_of}, Signals.step_kind, Step.next_record, Trace.logs_after}
 use Rattle.trace_facts.proofs.{OpcodeFetch.{IsProperProgress, logs_after-proper}, ProperRegisters.IsProper}
 use Rattle.device_core.specs.{Quiet.{GoesOver, IsOpen, IsQuiet, Question}, Silence.is_silent}
 use Rattle.debug_session.specs.{Request.most_steps, Cause.is_broken_at, Place.{Run, aux_at, differs, exec_at, logs_at, play_to, sight_at, step_at, step_sight}, Sight.StepSight, Stops.{Stops, has_breakpoint}, Watched.{hit_by, hits_by, hits_by_access, is_hit, made_access}, declared.watch.Watch.Watch}
-use Rattle.debug_walk.specs.Passing.{IsSilent, Sleeps, goes_over, is_passed, is_unasked}
-use Rattle.debug_walk.proofs.{Asking.idle-where, Places.{heard_at, step-kind, step-level, step-progress, next-there, silent-there}}
+use Rattle.debug_walk.{specs.Passing.{IsSilent, Sleeps, goes_over, is_passed, is_unasked}, proofs.{Asking.idle-where, Places.{heard_at, step-kind, step-level, step-progress, next-there, silent-there}}}
 
 -- a step without events over which a row goes
 record IsQuietAt (stops : Stops) (asleep : Bool) (run : Run) (place : ℕ) : Type 0 where

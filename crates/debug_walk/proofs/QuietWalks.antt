@@ -1,19 +1,13 @@
 -- A walk that makes a row of steps.
-use Rattle.std.proofs.Common.{◌≡◌, ◌<◌, ◌≤◌, ◌+◌, ◌-◌, ◌∙◌, ◌⊎◌, ⊎_elim, inl, inr, ℕ, zero, suc, Bool, true, false, List, [], ◌∷◌, ◌++◌, Option, None, Some, length, refl, ap, sym, subst, arith}
-use Rattle.std.specs.Prelude.{◌==◌, ◌&&◌, ◌||◌, is_some, nat_le, nat_lt, if◌then◌else◌}
-use Rattle.std.proofs.lemmas.Bool.{cond_both, eqb-true}
-use Rattle.std.proofs.lemmas.Bool.Decides.{nat_tests}
-use Rattle.std.proofs.lemmas.List.{length_push}
+use Rattle.std.{proofs.{Common.{◌≡◌, ◌<◌, ◌≤◌, ◌+◌, ◌-◌, ◌∙◌, ◌⊎◌, ⊎_elim, inl, inr, ℕ, zero, suc, Bool, true, false, List, [], ◌∷◌, ◌++◌, Option, None, Some, length, refl, ap, sym, subst, arith}, lemmas.{Bool.{cond_both, eqb-true, Decides.nat_tests}, List.length_push}}, specs.Prelude.{◌==◌, ◌&&◌, ◌||◌, is_some, nat_le, nat_lt, if◌then◌else◌}}
 use Rattle.device_types.specs.TraceFlag.{Flag}
 use Rattle.hmac_core.specs.Hash.{Hash}
 use Rattle.trace_facts.proofs.ExecFlag.{none_there}
 use Rattle.play_script.specs.declared.playback.Playback.{Playback}
 use Rattle.device_core.specs.{Device.{machine_of, steps_made}, Quiet.Question, declared.live.Live.Live}
 use Rattle.device_play.specs.Midway.{HasGoneOn}
-use Rattle.debug_session.specs.{Request.most_steps, declared.{command.Way.TheVariants.Ahead, watch.{Hit.Hit, Watch.Watch}}, Cause.{behind, hit_on, hits, is_broken_at, is_due}, Place.{Run, aux_at, exec_at, sight_at, view_of}, Sight.Sight, Stops.Stops, Watched.first_hit}
-use Rattle.debug_session.proofs.Views.{view-at}
-use Rattle.debug_walk.specs.{Passing.{ArePassed, AreSilent, IsCapped, IsPassed, goes_over}, Stretch.{has_cause, stretch_from, stretch_of_last}, Walk.{TellsCause, stretch_behind, stretch_there}, declared.stretch.Stretch.Stretch}
-use Rattle.debug_walk.proofs.{QuietPlaces.{GoesBy, SleepsOn, flags-next, goes-by, none-first, unbroken-at}, StretchSteps.{KeepsBehind, behind-few, hits-with, kept_behind, keeps-none}, TellsSteps.{KeepsTelling, tells-over, tells-past, tells-there}}
+use Rattle.debug_session.{specs.{Request.most_steps, declared.{command.Way.TheVariants.Ahead, watch.{Hit.Hit, Watch.Watch}}, Cause.{behind, hit_on, hits, is_broken_at, is_due}, Place.{Run, aux_at, exec_at, sight_at, view_of}, Sight.Sight, Stops.Stops, Watched.first_hit}, proofs.Views.view-at}
+use Rattle.debug_walk.{specs.{Passing.{ArePassed, AreSilent, IsCapped, IsPassed, goes_over}, Stretch.{has_cause, stretch_from, stretch_of_last}, Walk.{TellsCause, stretch_behind, stretch_there}, declared.stretch.Stretch.Stretch}, proofs.{QuietPlaces.{GoesBy, SleepsOn, flags-next, goes-by, none-first, unbroken-at}, StretchSteps.{KeepsBehind, behind-few, hits-with, kept_behind, keeps-none}, TellsSteps.{KeepsTelling, tells-over, tells-past, tells-there}}}
 
 -- from a place on, from each place to the next
 module _ (Holds : ℕ → Type 0) (place end : ℕ) (first : Holds place)

@@ -1,8 +1,5 @@
 -- Bytes that are shown, one after another.
-use Rattle.std.proofs.Common.{◌≡◌, ◌≤◌, ◌<◌, ◌+◌, ◌-◌, ◌%◌, ◌∙◌, ◌++◌, ◌⊎◌, inl, inr, ℕ, zero, suc, Bool, true, false, List, [], ◌∷◌, Option, Some, None, refl, ap, sym, arith, append_assoc}
-use Rattle.std.specs.Prelude.{◌||◌, if◌then◌else◌}
-use Rattle.std.proofs.lemmas.Bool.{cond-false, cond-true, le-ltb}
-use Rattle.std.proofs.lemmas.List.{append-nil}
+use Rattle.std.{proofs.{Common.{◌≡◌, ◌≤◌, ◌<◌, ◌+◌, ◌-◌, ◌%◌, ◌∙◌, ◌++◌, ◌⊎◌, inl, inr, ℕ, zero, suc, Bool, true, false, List, [], ◌∷◌, Option, Some, None, refl, ap, sym, arith, append_assoc}, lemmas.{Bool.{cond-false, cond-true, le-ltb}, List.append-nil}}, specs.Prelude.{◌||◌, if◌then◌else◌}}
 use Rattle.word_arith.specs.declared.size.Size.TheVariants.{Byte}
 use Rattle.device_types.specs.Map.{key_region, lies_in, stack_region}
 use Rattle.device_trace.specs.Signals.{number_read}

@@ -1,15 +1,8 @@
 -- What is kept of the steps since a boundary, with one step more.
-use Rattle.std.proofs.Common.{◌≡◌, ◌<◌, ◌≤◌, ◌-◌, ◌∙◌, ⊎_elim, ℕ, zero, suc, Bool, true, false, List, [], ◌∷◌, ◌++◌, Option, Some, None, length, refl, ap, sym, subst, arith}
-use Rattle.std.specs.Option.{option_or}
-use Rattle.std.specs.Prelude.{◌==◌, ◌&&◌, ◌||◌, nat_le, if◌then◌else◌}
-use Rattle.std.proofs.lemmas.Bool.{cases_lt}
-use Rattle.std.proofs.lemmas.Bool.Decides.{nat_tests}
-use Rattle.std.proofs.lemmas.List.{append-nil, append_assoc, length_push}
+use Rattle.std.{proofs.{Common.{◌≡◌, ◌<◌, ◌≤◌, ◌-◌, ◌∙◌, ⊎_elim, ℕ, zero, suc, Bool, true, false, List, [], ◌∷◌, ◌++◌, Option, Some, None, length, refl, ap, sym, subst, arith}, lemmas.{Bool.{cases_lt, Decides.nat_tests}, List.{append-nil, append_assoc, length_push}}}, specs.{Option.option_or, Prelude.{◌==◌, ◌&&◌, ◌||◌, nat_le, if◌then◌else◌}}}
 use Rattle.device_types.specs.{Kind.{is_boot, is_cpu, is_rom}, declared.{kind.Kind.{Kind, TheVariants.Boot}, rule.Rule.Rule}}
-use Rattle.debug_session.specs.{Request.most_steps, declared.{command.Way.TheVariants.{Ahead, Back}, seen_accesses.SeenAccesses.SeenAccesses, watch.{Hit.Hit, Watch.Watch}}, Cause.{begins_within, behind, boots, hit_on, hits, refusal, refusal_or}, Place.{Run, step_at, step_sight, view_of}, Sight.{Sight, StepSight}, Watched.{first_hit, hits_of, last_hit}}
-use Rattle.debug_session.proofs.{Stretches.{behind-first, has-begin}, Views.next-at, Hits.{first_of_both, last_of_both}}
-use Rattle.debug_walk.specs.{Stretch.{stretch_from, stretch_with}, Walk.{IsStretch, first_refused}, declared.stretch.Stretch.Stretch}
-use Rattle.debug_walk.proofs.Places.{held-first, step-kind}
+use Rattle.debug_session.{specs.{Request.most_steps, declared.{command.Way.TheVariants.{Ahead, Back}, seen_accesses.SeenAccesses.SeenAccesses, watch.{Hit.Hit, Watch.Watch}}, Cause.{begins_within, behind, boots, hit_on, hits, refusal, refusal_or}, Place.{Run, step_at, step_sight, view_of}, Sight.{Sight, StepSight}, Watched.{first_hit, hits_of, last_hit}}, proofs.{Stretches.{behind-first, has-begin}, Views.next-at, Hits.{first_of_both, last_of_both}}}
+use Rattle.debug_walk.{specs.{Stretch.{stretch_from, stretch_with}, Walk.{IsStretch, first_refused}, declared.stretch.Stretch.Stretch}, proofs.Places.{held-first, step-kind}}
 
 pub hits-with : (watches : List Watch) (sights : List Sight) (last : Sight)
     → hits watches (sights ++ last ∷ []) ≡ hits watches sights ++ last.next.hits watches

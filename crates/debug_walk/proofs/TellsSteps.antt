@@ -1,11 +1,8 @@
 -- What tells why to stop, with one step more.
-use Rattle.std.proofs.{Common.{◌≡◌, ◌<◌, ◌≤◌, ◌-◌, ◌∙◌, ◌⊎◌, ⊎_elim, inl, inr, ℕ, suc, Bool, true, false, List, [], ◌∷◌, ◌++◌, Option, None, Some, length, refl, ap, sym, subst, arith, is_some}, lemmas.{Bool.{cases_Bool, false≢true, Decides.nat_tests}, List.length_push}}
-use Rattle.std.specs.{Option.option_or, Prelude.{◌==◌, ◌&&◌, ◌||◌}}
+use Rattle.std.{proofs.{Common.{◌≡◌, ◌<◌, ◌≤◌, ◌-◌, ◌∙◌, ◌⊎◌, ⊎_elim, inl, inr, ℕ, suc, Bool, true, false, List, [], ◌∷◌, ◌++◌, Option, None, Some, length, refl, ap, sym, subst, arith, is_some}, lemmas.{Bool.{cases_Bool, false≢true, Decides.nat_tests}, List.length_push}}, specs.{Option.option_or, Prelude.{◌==◌, ◌&&◌, ◌||◌}}}
 use Rattle.device_types.specs.{Kind.is_boot, declared.{bus_record.BusRecord.BusRecord, kind.Kind.{Kind, TheVariants.Idle}, rule.Rule.Rule}}
-use Rattle.debug_session.specs.{Request.most_steps, declared.{command.Way.TheVariants.Ahead, seen_accesses.SeenAccesses.SeenAccesses, watch.{Hit.Hit, Watch.Watch}}, Cause.{behind, hit_on, hits, is_due}, Place.{Run, sight_at, step_at, step_sight, view_of}, Sight.{Sight, StepSight}, Stops.Stops, Watched.{first_hit, hits_of, last_hit}}
-use Rattle.debug_session.proofs.Views.{next-at, view-at}
-use Rattle.debug_walk.specs.{Stretch.{is_instruction, stretch_from, stretch_with}, Walk.{IsStretch, TellsCause, seen_at, stretch_past, stretch_there, stretch_behind}, declared.stretch.Stretch.Stretch}
-use Rattle.debug_walk.proofs.{QuietPlaces.GoesBy, Places.next-there, StretchSteps.{KeepsBehind, behind-few, first-with, kept-all, kept_behind, keeps-all, keeps-none, stretch-step}}
+use Rattle.debug_session.{specs.{Request.most_steps, declared.{command.Way.TheVariants.Ahead, seen_accesses.SeenAccesses.SeenAccesses, watch.{Hit.Hit, Watch.Watch}}, Cause.{behind, hit_on, hits, is_due}, Place.{Run, sight_at, step_at, step_sight, view_of}, Sight.{Sight, StepSight}, Stops.Stops, Watched.{first_hit, hits_of, last_hit}}, proofs.Views.{next-at, view-at}}
+use Rattle.debug_walk.{specs.{Stretch.{is_instruction, stretch_from, stretch_with}, Walk.{IsStretch, TellsCause, seen_at, stretch_past, stretch_there, stretch_behind}, declared.stretch.Stretch.Stretch}, proofs.{QuietPlaces.GoesBy, Places.next-there, StretchSteps.{KeepsBehind, behind-few, first-with, kept-all, kept_behind, keeps-all, keeps-none, stretch-step}}}
 use Rattle.device_core.specs.{Device.{HasStepped, machine_of}, declared.live.Live.Live}
 
 -- what tells it of the steps behind a place, where the next step is one of them

@@ -1,5 +1,5 @@
 -- What a device shows in the middle of a run is what the place has where it stands.
-use Rattle.std.proofs.Common.{◌≡◌, ℕ, suc, Bool, List, Some, Result, Ok, Err, inr}
+use Rattle.std.{proofs.Common.{◌≡◌, ℕ, suc, Bool, List, Some, Result, Ok, Err, inr}, specs.Prelude.IfOk}
 use Rattle.device_types.specs.{TraceFlag.Flag, declared.bus_record.BusRecord.BusRecord}
 use Rattle.hmac_core.specs.Hash.{Hash}
 use Rattle.device_trace.specs.{Logs.{Logs, aux_of, exec_of}, Progress.{last_registers, stands_at_boundary}, Start.Start, Trace.{last_record, logs_after, trace}}
@@ -7,7 +7,6 @@ use Rattle.play_script.specs.declared.playback.Playback.{Playback}
 use Rattle.device_core.specs.{Device.{OfLive, steps_made}, declared.live.Live.Live}
 use Rattle.device_play.specs.Midway.{IsMidway}
 use Rattle.debug_session.specs.{Place.{Run, aux_at, exec_at, logs_at, play_to, sight_at, step_at}, declared.watch.Watch.Watch}
-use Rattle.std.specs.Prelude.{IfOk}
 use Rattle.debug_walk.specs.{Copies.IsBegun, Walk.{IsStretch, Walks, place_of}, declared.walk.Walk.Walk}
 
 pub some-same : {A : Type 0} {one other : A} → Some one ≡ Some other → one ≡ other

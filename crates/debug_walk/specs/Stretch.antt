@@ -1,6 +1,5 @@
 -- What is kept of the steps since a boundary, from step to step.
-use Rattle.std.specs.Prelude.{ℕ, ◌==◌, ◌&&◌, ◌||◌, Bool, false, List, Option, None, is_some, if◌then◌else◌}
-use Rattle.std.specs.Option.{option_or}
+use Rattle.std.specs.{Prelude.{ℕ, ◌==◌, ◌&&◌, ◌||◌, Bool, false, List, Option, None, is_some, if◌then◌else◌}, Option.option_or}
 use Rattle.device_types.specs.{Kind.{is_boot, is_cpu, is_rom}, declared.{bus_record.BusRecord.BusRecord, kind.Kind.Kind}}
 use Rattle.debug_session.specs.{Cause.is_due, Watched.{first_hit, hits_of, last_hit}, declared.{seen_accesses.SeenAccesses.SeenAccesses, watch.Watch.Watch}}
 use Rattle.debug_walk.specs.declared.stretch.Stretch.{Stretch}

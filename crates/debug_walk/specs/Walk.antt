@@ -1,6 +1,5 @@
 -- A device on its way through the places of a run, and what is kept of the steps since a boundary.
-use Rattle.std.specs.Prelude.{◌≡◌, ◌<◌, ◌⊎◌, ◌&&◌, ◌-◌, ℕ, suc, Bool, true, List, [], ◌∷◌, Option, None, length, nat_le, if◌then◌else◌}
-use Rattle.std.specs.Option.{option_or}
+use Rattle.std.specs.{Prelude.{◌≡◌, ◌<◌, ◌⊎◌, ◌&&◌, ◌-◌, ℕ, suc, Bool, true, List, [], ◌∷◌, Option, None, length, nat_le, if◌then◌else◌}, Option.option_or}
 use Rattle.device_types.specs.{declared.rule.Rule.Rule, TraceFlag.Flag}
 use Rattle.debug_session.specs.{declared.{command.Way.TheVariants.{Ahead, Back}, seen_accesses.SeenAccesses.SeenAccesses, watch.Watch.Watch}, Cause.{begins_within, behind, boots, hit_on, hits, is_due}, Place.{Run, aux_at, differs, exec_at, sight_at, step_at, view_of}, Sight.Sight, Stops.Stops, Watched.seen_accesses}
 use Rattle.debug_walk.specs.{Stretch.{stretch_from, stretch_of_last, stretch_with}, declared.{stretch.Stretch.Stretch, walk.Walk.Walk}}

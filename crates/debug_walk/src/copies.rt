@@ -1,5 +1,4 @@
-ghost use Rattle.std.specs.Prelude.{◌≡◌, ◌<◌, IfSome};
-ghost use Rattle.std.specs.List.{All};
+ghost use Rattle.std.specs.{Prelude.{◌≡◌, ◌<◌, IfSome}, List.All};
 ghost use Rattle.debug_session.specs.Place.{Run};
 ghost use Rattle.debug_walk.specs.{Copies.{AreCopies, IsCopy}, Walk.{Walks, place_of}};
 

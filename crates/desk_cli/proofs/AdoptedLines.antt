@@ -1,13 +1,11 @@
 -- What came of lines that a memory was to adopt.
-use Rattle.std.proofs.Common.{◌≡◌, List, Option, Some, None, Result, refl, subst, inl, inr}
-use Rattle.std.specs.Result.{result_err}
+use Rattle.std.{proofs.Common.{◌≡◌, List, Option, Some, None, Result, refl, subst, inl, inr}, specs.Result.result_err}
 use Rattle.text_scan.specs.declared.fault_at.FaultAt.{FaultAt}
-use Rattle.desk_memory.specs.declared.memory.Memory as memory
-use Rattle.desk_memory.specs.{declared.memory_fault.MemoryFault.MemoryFault, Entry.{Entry, with_entries}, Moving.entries_on_arrival}
+use Rattle.desk_memory.specs.{declared.{memory.Memory.Ghosts as MemoryGhosts, memory_fault.MemoryFault.MemoryFault}, Entry.{Entry, with_entries}, Moving.entries_on_arrival}
 use Rattle.input_files.specs.declared.status.Status.{Status}
 use Rattle.desk_cli.specs.{Adopt.{AdoptsIf, IsUntaken}, Noting.{HasNoted, status_of_noted}}
 
-pub adopts-all : {M : Type 0} (m : memory.Ghosts M) (opened left : M)
+pub adopts-all : {M : Type 0} (m : MemoryGhosts M) (opened left : M)
     (entries lines new : List Entry) (fault : Option FaultAt) (result : Result Unit MemoryFault)
     (status : Status)
     → fault ≡ None → new ≡ entries_on_arrival entries lines
@@ -22,7 +20,7 @@ adopts-all m opened left entries lines new fault result status none is noted ans
       answer = answer;
     }))
 
-pub adopts-none : {M : Type 0} (m : memory.Ghosts M) (opened : M) (entries lines : List Entry)
+pub adopts-none : {M : Type 0} (m : MemoryGhosts M) (opened : M) (entries lines : List Entry)
     (fault : Option FaultAt) (status : Status)
     → IsUntaken fault status → AdoptsIf m opened opened entries lines fault status
 adopts-none m opened entries lines None status is = inl (is, refl)

@@ -1,12 +1,9 @@
 -- What came of a departure.
-use Rattle.std.proofs.{Common.{◌≡◌, ◌∙◌, ℕ, List, Option, Some, None, Result, Ok, Err, refl, ap, sym, subst, inl, inr, [], ◌∷◌, true, false}, lemmas.{Bool.cases_Bool, Option.same_Some, Slice.Eq.bytes_eq-Decides}}
-use Rattle.std.specs.{Prelude.◌==◌, Str.bytes_eq, Option.is_some}
-use Rattle.desk_memory.specs.{AnswerReader.most_number, Entry.{Entry, last_in, with_entry, Home, home_of, is_replaced}, Moving.{with_departure, gone_to, is_gone_to, is_here, lines_at, moved_lines, at_home}}
+use Rattle.std.{proofs.{Common.{◌≡◌, ◌∙◌, ℕ, List, Option, Some, None, Result, Ok, Err, refl, ap, sym, subst, inl, inr, [], ◌∷◌, true, false}, lemmas.{Bool.cases_Bool, Option.same_Some, Slice.Eq.bytes_eq-Decides}}, specs.{Prelude.◌==◌, Str.bytes_eq, Option.is_some}}
+use Rattle.desk_memory.{specs.{AnswerReader.most_number, Entry.{Entry, last_in, with_entry, Home, home_of, is_replaced}, Moving.{with_departure, gone_to, is_gone_to, is_here, lines_at, moved_lines, at_home}, declared.memory.Memory.Ghosts as MemoryGhosts}, proofs.Noted.{entry_is_last, last_named}}
 use Rattle.input_files.specs.declared.{status.Status.Status, unfit.Unfit.Unfit}
 use Rattle.desk_cli.specs.{Move.{Departs, KeepsAndPuts, MoveNames, Stays, departure, home_behind}, StateText.states_text}
-use Rattle.desk_memory.proofs.Noted.{entry_is_last, last_named}
-use Rattle.outside_edge.specs.declared.sink.Sink as sink
-use Rattle.desk_memory.specs.declared.memory.Memory as memory
+use Rattle.outside_edge.specs.declared.sink.Sink.{Ghosts as SinkGhosts}
 
 -- The lines by which a device moves are the same before and after it is kept that it is gone.
 
@@ -71,7 +68,7 @@ departed-lines name to entries last is =
     ∙ gone-lines (gone_to to last).home name to entries last is mine
 
 -- it stays
-pub stays : {M W : Type 0} (m : memory.Ghosts M) (w : sink.Ghosts W) (opened : M) (old : W)
+pub stays : {M W : Type 0} (m : MemoryGhosts M) (w : SinkGhosts W) (opened : M) (old : W)
     (names : MoveNames) (entries : List Entry) (departs : Result (Option Entry) Unfit)
     (status : Status)
     → Stays departs status → Departs m w opened opened old old names entries departs status
@@ -112,7 +109,7 @@ goes-by from to (Some one) gone is = elim (cases_Bool (is_gone_to to one)) [
   ]
 ]
 
-pub goes : {M W : Type 0} (m : memory.Ghosts M) (w : sink.Ghosts W) (opened left : M)
+pub goes : {M W : Type 0} (m : MemoryGhosts M) (w : SinkGhosts W) (opened left : M)
     (old new : W) (names : MoveNames) (from : List ℕ) (entries lines : List Entry)
     (found : Option Entry) (gone : Entry) (status : Status)
     → departure from names.desk (last_in entries names.device) ≡ Ok found → found ≡ Some gone

@@ -1,20 +1,13 @@
 -- Answers of a desk: after a refusal of its files, and after it met its memory and its lines.
 use Rattle.std.proofs.Common.{◌≡◌, ◌≤◌, ℕ, List, Option, Some, None, Ok, Err, refl, inl, inr, arith, rules}
-use Rattle.outside_edge.specs.Shelf.{KeepsFiles}
+use Rattle.outside_edge.specs.{Shelf.KeepsFiles, declared.{shelf.Shelf.Ghosts as ShelfGhosts, sink.Sink.Ghosts as SinkGhosts, source.Source.Ghosts as SourceGhosts}}
 use Rattle.report_verifier.specs.Policy.{PolicyFields}
-use Rattle.desk_memory.specs.{Entry.Entry, NoMemory.forgets, declared.memory_fault.MemoryFault.MemoryFault}
+use Rattle.desk_memory.specs.{Entry.Entry, NoMemory.forgets, declared.{memory_fault.MemoryFault.MemoryFault, memory.Memory.Ghosts as MemoryGhosts}}
 use Rattle.verifier_desk.specs.{DeviceKey.DeviceKey, Replies.DeskFields, declared.answer_fault.AnswerFault.AnswerFault, Serving.desk_promise}
-use Rattle.input_files.specs.{declared.{refusal.Refusal.Refusal, status.Status.{Status, TheVariants.{Words, Spent}}}, Reading.{Reaches, Reads}, Row.{RowOf, Ends}, Status.status_of_refusal}
-use Rattle.input_files.proofs.Complete.{refused-complete, told-complete, refused-words, refused-spent}
-use Rattle.desk_cli.specs.{Desk.{DeskNames, DeskValues, HasServed, IsDeskAnswer, Meets, ServesFrom, desk_row}, MemoryFiles.ToldMemories, Status.{status_of_served, status_of_unkept, status_of_unopened}}
-use Rattle.source_server.specs.{Serving.Ports, declared.served.Served.Served, Taken.KeepsLimit}
-use Rattle.desk_cli.proofs.{DeskComplete.serves-whole, NoWords.{served-words, uses-words}}
+use Rattle.input_files.{specs.{declared.{refusal.Refusal.Refusal, status.Status.{Status, TheVariants.{Words, Spent}}}, Reading.{Reaches, Reads}, Row.{RowOf, Ends}, Status.status_of_refusal}, proofs.Complete.{refused-complete, told-complete, refused-words, refused-spent}}
+use Rattle.desk_cli.{specs.{Desk.{DeskNames, DeskValues, HasServed, IsDeskAnswer, Meets, ServesFrom, desk_row}, MemoryFiles.ToldMemories, Status.{status_of_served, status_of_unkept, status_of_unopened}}, proofs.{DeskComplete.serves-whole, NoWords.{served-words, uses-words}}}
+use Rattle.source_server.{specs.{Serving.Ports, declared.served.Served.Served, Taken.KeepsLimit}, proofs.ServedEnds.keeps_limit}
 use Rattle.desk_database.specs.declared.memory_file_fault.MemoryFileFault.{MemoryFileFault}
-use Rattle.source_server.proofs.ServedEnds.{keeps_limit}
-use Rattle.outside_edge.specs.declared.shelf.Shelf as shelves
-use Rattle.outside_edge.specs.declared.sink.Sink as sink
-use Rattle.outside_edge.specs.declared.source.Source as source
-use Rattle.desk_memory.specs.declared.memory.Memory as memory
 use Rattle.source_server.specs.declared.served.Served.TheVariants as served
 use Rattle.verifier_desk.specs.declared.answer_fault.AnswerFault.TheVariants as fault
 
@@ -26,7 +19,7 @@ unkept-spent = search rules
 unopened-spent : (fault : MemoryFileFault) → status_of_unopened fault ≡ Spent → ⊥
 unopened-spent = search rules
 
-module _ {R : Type 0} (r : source.Ghosts R) where
+module _ {R : Type 0} (r : SourceGhosts R) where
   -- nothing was taken
   untouched : (now : R) (status : Status) → (status ≡ Spent → ⊥)
       → KeepsLimit r now now (status ≡ Spent)
@@ -46,7 +39,7 @@ module _ {R : Type 0} (r : source.Ghosts R) where
   ended-spent (served.Own fault.Memory) is = absurd (cc is)
   ended-spent (served.Own (fault.Unkept unkept)) is = absurd (unkept-spent unkept is)
 
-  served-limit : {M W : Type 0} (m : memory.Ghosts M) (w : sink.Ghosts W) (desk : DeskFields)
+  served-limit : {M W : Type 0} (m : MemoryGhosts M) (w : SinkGhosts W) (desk : DeskFields)
       (opened left : M) (old new : Ports R W) (status : Status)
       → HasServed r m w desk opened left old new status
       → KeepsLimit r old.source new.source (status ≡ Spent)
@@ -55,7 +48,7 @@ module _ {R : Type 0} (r : source.Ghosts R) where
       old.source new.source (record { memory = left; sink = new.sink }) has.ended has.serves
       (λ is. ended-spent has.ended (rw has.answer at is))
 
-  meets-limit : {M W : Type 0} (m : memory.Ghosts M) (w : sink.Ghosts W) (values : DeskValues)
+  meets-limit : {M W : Type 0} (m : MemoryGhosts M) (w : SinkGhosts W) (values : DeskValues)
       (old new : Ports R W) (status : Status) (desk : List ℕ) (entries : List Entry)
       (opened left : M)
       → Meets r m w values old new status desk entries opened left
@@ -72,8 +65,8 @@ module _ {R : Type 0} (r : source.Ghosts R) where
   meets-limit m w values old new status desk entries opened left (inr (apart, here, has)) =
       served-limit m w _ opened left old new status has
 
-  pub serves-limit : {F M W : Type 0} (told : ToldMemories F M) (m : memory.Ghosts M)
-      (desk_of : M → List ℕ) (w : sink.Ghosts W) (values : DeskValues) (memory : Option (List ℕ))
+  pub serves-limit : {F M W : Type 0} (told : ToldMemories F M) (m : MemoryGhosts M)
+      (desk_of : M → List ℕ) (w : SinkGhosts W) (values : DeskValues) (memory : Option (List ℕ))
       (memories memories_after : F) (old new : Ports R W) (status : Status)
       → ServesFrom told r m desk_of w values memory memories memories_after old new status
       → KeepsLimit r old.source new.source (status ≡ Spent)
@@ -94,8 +87,8 @@ abbrev pub desk_end : List DeviceKey × ((ℕ → Option ℕ) × PolicyFields) �
 desk_end values =
     Ends (Ok (record { devices = values.0; image = values.1.0; policy = values.1.1 }))
 
-pub refused-answer : {S F R M W V : Type 0} (s : shelves.Ghosts S) (told : ToldMemories F M)
-    (r : source.Ghosts R) (m : memory.Ghosts M) (desk_of : M → List ℕ) (w : sink.Ghosts W)
+pub refused-answer : {S F R M W V : Type 0} (s : ShelfGhosts S) (told : ToldMemories F M)
+    (r : SourceGhosts R) (m : MemoryGhosts M) (desk_of : M → List ℕ) (w : SinkGhosts W)
     (shelf shelf_after : S) (memories : F) (ports : Ports R W) (names : DeskNames)
     (named : Option DeskNames) (rest : V → RowOf DeskValues) (refusal : Refusal)
     → Some names ≡ named
@@ -118,14 +111,14 @@ refused-answer s told r m desk_of w shelf shelf_after memories ports names named
       sink_counted = omega arith;
     })
 
-has-served-words : {R M W : Type 0} (r : source.Ghosts R) (m : memory.Ghosts M)
-    (w : sink.Ghosts W) (desk : DeskFields) (opened left : M) (old new : Ports R W)
+has-served-words : {R M W : Type 0} (r : SourceGhosts R) (m : MemoryGhosts M)
+    (w : SinkGhosts W) (desk : DeskFields) (opened left : M) (old new : Ports R W)
     (status : Status)
     → HasServed r m w desk opened left old new status → status ≡ Words → ⊥
 has-served-words r m w desk opened left old new status served is =
     served-words served.ended (rw served.answer at is)
 
-meets-words : {R M W : Type 0} (r : source.Ghosts R) (m : memory.Ghosts M) (w : sink.Ghosts W)
+meets-words : {R M W : Type 0} (r : SourceGhosts R) (m : MemoryGhosts M) (w : SinkGhosts W)
     (values : DeskValues) (old new : Ports R W) (status : Status) (desk : List ℕ)
     (entries : List Entry) (opened left : M)
     → Meets r m w values old new status desk entries opened left → status ≡ Words → ⊥
@@ -141,8 +134,8 @@ meets-words r m w values old new status desk entries opened left
 meets-words r m w values old new status desk entries opened left (inr (apart, here, served)) is =
     has-served-words r m w _ opened left old new status served is
 
-serves-words : {F R M W : Type 0} (told : ToldMemories F M) (r : source.Ghosts R)
-    (m : memory.Ghosts M) (desk_of : M → List ℕ) (w : sink.Ghosts W) (values : DeskValues)
+serves-words : {F R M W : Type 0} (told : ToldMemories F M) (r : SourceGhosts R)
+    (m : MemoryGhosts M) (desk_of : M → List ℕ) (w : SinkGhosts W) (values : DeskValues)
     (memory : Option (List ℕ)) (memories memories_after : F) (old new : Ports R W)
     (status : Status)
     → ServesFrom told r m desk_of w values memory memories memories_after old new status
@@ -155,8 +148,8 @@ serves-words told r m desk_of w values (Some name) memories memories_after old n
     (λ desk entries opened left meets.
     meets-words r m w values old new status desk entries opened left meets) is
 
-pub served-answer : {S F R M W : Type 0} (s : shelves.Ghosts S) (told : ToldMemories F M)
-    (r : source.Ghosts R) (m : memory.Ghosts M) (desk_of : M → List ℕ) (w : sink.Ghosts W)
+pub served-answer : {S F R M W : Type 0} (s : ShelfGhosts S) (told : ToldMemories F M)
+    (r : SourceGhosts R) (m : MemoryGhosts M) (desk_of : M → List ℕ) (w : SinkGhosts W)
     (shelf shelf_after : S) (memories memories_after : F) (old new : Ports R W) (names : DeskNames)
     (named : Option DeskNames) (values : DeskValues) (status : Status)
     → Some names ≡ named

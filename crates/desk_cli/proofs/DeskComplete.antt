@@ -1,18 +1,10 @@
 -- Where nothing failed or hindered its memory, a desk answers all lines, or memory runs out.
-use Rattle.std.proofs.Common.{◌≡◌, ◌<◌, ◌+◌, ◌⊎◌, ℕ, List, [], ◌∷◌, length, Option, Some, None, IfSome, refl, ap, ◌∙◌, inl, inr, subst, arith}
-use Rattle.std.specs.Option.{is_some}
-use Rattle.std.proofs.lemmas.Option.{same_Some}
-use Rattle.std.proofs.lemmas.Bool.{cases_Bool}
+use Rattle.std.{proofs.{Common.{◌≡◌, ◌<◌, ◌+◌, ◌⊎◌, ℕ, List, [], ◌∷◌, length, Option, Some, None, IfSome, refl, ap, ◌∙◌, inl, inr, subst, arith}, lemmas.{Option.same_Some, Bool.cases_Bool}}, specs.Option.is_some}
 use Rattle.sha2.specs.Sha256.{sha256}
-use Rattle.outside_edge.specs.Calls.{Rose}
-use Rattle.outside_edge.specs.declared.sink.Sink as sink
-use Rattle.outside_edge.specs.declared.source.Source as source
-use Rattle.outside_edge.proofs.Counts.{never_rises}
-use Rattle.desk_memory.specs.declared.memory.Memory as memory
-use Rattle.desk_memory.specs.{declared.{memory_fault.MemoryFault.MemoryFault, no_memory.NoMemory.NoMemory}, Entry.{Entry, home_of, last_in}, NoMemory.forgets}
-use Rattle.source_server.specs.{declared.halt.Halt.Halt, Serving.{served_of, Ports}, Taken.most_input}
+use Rattle.outside_edge.{specs.{Calls.Rose, declared.{sink.Sink.Ghosts as SinkGhosts, source.Source.Ghosts as SourceGhosts}}, proofs.Counts.never_rises}
+use Rattle.desk_memory.specs.{declared.{memory.Memory.Ghosts as MemoryGhosts, memory_fault.MemoryFault.MemoryFault, no_memory.NoMemory.NoMemory}, Entry.{Entry, home_of, last_in}, NoMemory.forgets}
+use Rattle.source_server.{specs.{declared.halt.Halt.Halt, Serving.{served_of, Ports}, Taken.most_input}, proofs.ServedEnds.whole_or_stopped}
 use Rattle.source_server.specs.declared.halt.Halt.TheVariants as halt
-use Rattle.source_server.proofs.ServedEnds.{whole_or_stopped}
 use Rattle.verifier_desk.specs.{declared.answer_fault.AnswerFault.AnswerFault, DeviceKey.{DeviceKey, first_gone}, KeyOwner.KeysStandApart, Replies.DeskFields, Serving.{HasFailed, Outside, desk_promise}}
 use Rattle.verifier_desk.specs.declared.answer_fault.AnswerFault.TheVariants as fault
 use Rattle.input_files.specs.{declared.status.Status.{Status, TheVariants.{Done, Memory}}}
@@ -23,11 +15,11 @@ abbrev pub IsWhole : Status → Type 0
 IsWhole status = (status ≡ Done) ⊎ (status ≡ Memory)
 
 -- the memory failed after it was opened
-abbrev FailsLater : {M : Type 0} → memory.Ghosts M → M → M → Status → Type 0
+abbrev FailsLater : {M : Type 0} → MemoryGhosts M → M → M → Status → Type 0
 FailsLater m opened left status =
     (fault : MemoryFault) × (status ≡ status_of_unkept fault) × HasFailed m opened left fault
 
-stopped-whole : {M W : Type 0} (m : memory.Ghosts M) (w : sink.Ghosts W) (desk : DeskFields)
+stopped-whole : {M W : Type 0} (m : MemoryGhosts M) (w : SinkGhosts W) (desk : DeskFields)
     (first now : Outside M W) (before last : List ℕ) (why : Halt AnswerFault)
     → (desk_promise m w desk first).stopped now before last why
     → ¬ Rose (w.faults first.sink) (w.faults now.sink)
@@ -42,7 +34,7 @@ stopped-whole m w desk first now before last (halt.Own (fault.Unkept unkept)) (i
 stopped-whole m w desk first now before last (halt.Own (fault.Unkept unkept)) (inr so) no_sink =
     absurd (cc so.0)
 
-served-whole : {R M W : Type 0} (r : source.Ghosts R) (m : memory.Ghosts M) (w : sink.Ghosts W)
+served-whole : {R M W : Type 0} (r : SourceGhosts R) (m : MemoryGhosts M) (w : SinkGhosts W)
     (desk : DeskFields) (opened left : M) (old new : Ports R W) (status : Status)
     (lines : List ℕ)
     → HasServed r m w desk opened left old new status
@@ -81,7 +73,7 @@ from-none : (before after : ℕ) → Rose before after → Rose 0 after
 from-none before after (inl more) = inl (omega (arith, more))
 from-none before after (inr end) = inr end
 
-whole-over : {M : Type 0} (m : memory.Ghosts M) (opened left : M) (status : Status)
+whole-over : {M : Type 0} (m : MemoryGhosts M) (opened left : M) (status : Status)
     → ¬ Rose 0 (m.faults left)
     → (status ≡ Done) ⊎ (status ≡ Memory) ⊎ FailsLater m opened left status
     → IsWhole status
@@ -123,7 +115,7 @@ gone-below entries devices place is =
 none-gone : (place : ℕ) (first : Option ℕ) → first ≡ None → first ≡ Some place → ⊥
 none-gone place first none is = cc (none, is)
 
-meets-whole : {R M W : Type 0} (r : source.Ghosts R) (m : memory.Ghosts M) (w : sink.Ghosts W)
+meets-whole : {R M W : Type 0} (r : SourceGhosts R) (m : MemoryGhosts M) (w : SinkGhosts W)
     (values : DeskValues) (old new : Ports R W) (status : Status) (desk : List ℕ)
     (entries : List Entry) (opened left : M) (lines : List ℕ)
     → Meets r m w values old new status desk entries opened left
@@ -152,8 +144,8 @@ meets-whole r m w values old new status desk entries opened left lines
     whole-over m opened left status sound (served-whole r m w _ opened left old new status lines
     served is few no_source no_sink)
 
-pub serves-whole : {F R M W : Type 0} (told : ToldMemories F M) (r : source.Ghosts R)
-    (m : memory.Ghosts M) (desk_of : M → List ℕ) (w : sink.Ghosts W) (values : DeskValues)
+pub serves-whole : {F R M W : Type 0} (told : ToldMemories F M) (r : SourceGhosts R)
+    (m : MemoryGhosts M) (desk_of : M → List ℕ) (w : SinkGhosts W) (values : DeskValues)
     (memory : Option (List ℕ))
     (memories memories_after : F) (old new : Ports R W) (status : Status) (lines : List ℕ)
     → ServesFrom told r m desk_of w values memory memories memories_after old new status

@@ -1,16 +1,14 @@
 -- The entries that are found in a memory, before an open or a making of it and after.
-use Rattle.std.proofs.Common.{◌≡◌, ◌⊎◌, ◌<◌, Bool, true, false, ℕ, List, Option, Some, None, IfSome, IsTrue, refl, sym, subst, ◌∙◌, inl, inr, arith}
-use Rattle.std.proofs.lemmas.Grind.{not_there}
+use Rattle.std.proofs.{Common.{◌≡◌, ◌⊎◌, ◌<◌, Bool, true, false, ℕ, List, Option, Some, None, IfSome, IsTrue, refl, sym, subst, ◌∙◌, inl, inr, arith}, lemmas.Grind.not_there}
 use Rattle.outside_edge.specs.Calls.{Rose}
 use Rattle.sqlite_disk.specs.declared.Disk.{Ghosts}
 use Rattle.sqlite_wal.specs.Recovery.{Image}
 use Rattle.sqlite_pool.specs.Stored.{RecoversAs}
 use Rattle.sqlite_store.specs.declared.store.FileStore.{FileStore}
 use Rattle.desk_memory.specs.Entry.{Entry, are_sized}
-use Rattle.desk_database.specs.{Fault.IsOfPath, Held.{HoldsMemory, HoldsNothing}, Opening.{FailsAs, IsCleanLeft, IsMadeOver, IsOpenOver, Leaves, WhyUnmade, WhyUnopened}, MemoryTables.page_size, declared.{left.Left.Left, memory_file_fault.MemoryFileFault.{MemoryFileFault, TheVariants.{Place, Missing, InUse, HotJournal, Foreign, Disk, Full, OutOfMemory, Unfounded, Founded, OtherLog}}}}
+use Rattle.desk_database.{specs.{Fault.IsOfPath, Held.{HoldsMemory, HoldsNothing}, Opening.{FailsAs, IsCleanLeft, IsMadeOver, IsOpenOver, Leaves, WhyUnmade, WhyUnopened}, MemoryTables.page_size, declared.{left.Left.Left, memory_file_fault.MemoryFileFault.{MemoryFileFault, TheVariants.{Place, Missing, InUse, HotJournal, Foreign, Disk, Full, OutOfMemory, Unfounded, Founded, OtherLog}}}}, proofs.{TableRead.{not_founded, not_unfounded}, HeldLemmas.{memory_carried, memory_is_something}}}
 use Rattle.desk_database.specs.Opening as opening
 use Rattle.desk_database.specs.declared.left.Left.TheVariants as left
-use Rattle.desk_database.proofs.{TableRead.{not_founded, not_unfounded}, HeldLemmas.{memory_carried, memory_is_something}}
 use Rattle.desk_cli.specs.{declared.refusals.Refusals.Refusals, MemoryFiles.{IsUnopened, Request, ToldMemories}, StoreFiles.{FindsIn, FindsLeft, FindsNow, IsFullLeft, FailsNow, IsCounted, IsFullNow, IsHonestNow, LeavesNow, faults_left, faults_now, keeps_as, told_over, why_of}}
 
 module _ {D : Type 0} {g : Ghosts D} (image : Image) (store : FileStore D g) (desk : List ℕ)

@@ -1,20 +1,14 @@
 -- Answers of `move` and `adopt`.
-use Rattle.std.proofs.Common.{◌≡◌, ◌≤◌, ℕ, List, Option, Some, None, Result, Ok, Err, refl, inl, inr}
-use Rattle.std.specs.Prelude.{IfSome}
-use Rattle.outside_edge.specs.Shelf.{KeepsFiles}
+use Rattle.std.{proofs.Common.{◌≡◌, ◌≤◌, ℕ, List, Option, Some, None, Result, Ok, Err, refl, inl, inr}, specs.Prelude.IfSome}
+use Rattle.outside_edge.specs.{Shelf.KeepsFiles, declared.{shelf.Shelf.Ghosts as ShelfGhosts, sink.Sink.Ghosts as SinkGhosts}}
 use Rattle.text_scan.specs.declared.fault_at.FaultAt.{FaultAt}
-use Rattle.desk_memory.specs.{declared.memory_fault.MemoryFault.MemoryFault, Entry.{Entry, last_in}}
-use Rattle.input_files.specs.{declared.{refusal.Refusal.Refusal, status.Status.{Status, TheVariants.Words}, unfit.Unfit.Unfit}, Reading.{Reaches, Reads, IsUnread}, Row.RowOf, Status.status_of_refusal}
-use Rattle.desk_cli.specs.{Adopt.{AdoptNames, Adopts, AdoptsIf, IsAdoptAnswer, first_refused}, Founding.{states_row, FoundNames, FoundsIf, IsRememberAnswer, RememberNames}, MemoryFiles.{ToldMemories, UsesIf, Making}, Move.{Departs, IsMoveAnswer, MoveNames, Moves, departure}, StateFile.NumberedEntries, Status.status_of_unkept}
-use Rattle.desk_cli.proofs.NoWords.{notes-words, puts-words, unkept-words, uses-words, lacks-words}
-use Rattle.input_files.proofs.Complete.{refused-words}
-use Rattle.outside_edge.specs.declared.shelf.Shelf as shelves
-use Rattle.outside_edge.specs.declared.sink.Sink as sink
-use Rattle.desk_memory.specs.declared.memory.Memory as memory
+use Rattle.desk_memory.specs.{declared.{memory_fault.MemoryFault.MemoryFault, memory.Memory.Ghosts as MemoryGhosts}, Entry.{Entry, last_in}}
+use Rattle.input_files.{specs.{declared.{refusal.Refusal.Refusal, status.Status.{Status, TheVariants.Words}, unfit.Unfit.Unfit}, Reading.{Reaches, Reads, IsUnread}, Row.RowOf, Status.status_of_refusal}, proofs.Complete.refused-words}
+use Rattle.desk_cli.{specs.{Adopt.{AdoptNames, Adopts, AdoptsIf, IsAdoptAnswer, first_refused}, Founding.{states_row, FoundNames, FoundsIf, IsRememberAnswer, RememberNames}, MemoryFiles.{ToldMemories, UsesIf, Making}, Move.{Departs, IsMoveAnswer, MoveNames, Moves, departure}, StateFile.NumberedEntries, Status.status_of_unkept}, proofs.NoWords.{notes-words, puts-words, unkept-words, uses-words, lacks-words}}
 
 -- Answers of `found` and `remember`.
 
-founds-words : {F M : Type 0} (told : ToldMemories F M) (m : memory.Ghosts M)
+founds-words : {F M : Type 0} (told : ToldMemories F M) (m : MemoryGhosts M)
     (desk_of : M → List ℕ) (memories memories_after : F) (names : FoundNames)
     (entries : List Entry) (status : Status)
     → FoundsIf told m desk_of memories memories_after names entries status
@@ -25,7 +19,7 @@ founds-words told m desk_of memories memories_after names entries status (inr fo
     notes-words m founds.opened founds.left _ status founds.notes is
 
 -- the file was refused
-pub unread-words : {S F V : Type 0} (s : shelves.Ghosts S) (shelf shelf_after : S) (memories : F)
+pub unread-words : {S F V : Type 0} (s : ShelfGhosts S) (shelf shelf_after : S) (memories : F)
     (name : List ℕ) (rest : V → RowOf NumberedEntries) (refusal : Refusal)
     → Reads s.files s.faults s.misses shelf shelf_after (states_row name) rest (Err refusal)
     → (IsUnread s shelf shelf_after (states_row name) (status_of_refusal refusal)
@@ -36,8 +30,8 @@ unread-words s shelf shelf_after memories name rest refusal reads = (
   λ is. refused-words (s.files shelf) _ _ (states_row name) (rw is at reads.refusal),
 )
 
-pub refused-answer : {S F M V : Type 0} (s : shelves.Ghosts S) (told : ToldMemories F M)
-    (m : memory.Ghosts M) (desk_of : M → List ℕ) (shelf shelf_after : S) (memories : F)
+pub refused-answer : {S F M V : Type 0} (s : ShelfGhosts S) (told : ToldMemories F M)
+    (m : MemoryGhosts M) (desk_of : M → List ℕ) (shelf shelf_after : S) (memories : F)
     (names : RememberNames) (named : Option RememberNames) (rest : V → RowOf NumberedEntries)
     (refusal : Refusal)
     → Some names ≡ named
@@ -53,8 +47,8 @@ refused-answer s told m desk_of shelf shelf_after memories names named rest refu
       kept = reads.kept;
     })
 
-pub remember-answer : {S F M : Type 0} (s : shelves.Ghosts S) (told : ToldMemories F M)
-    (m : memory.Ghosts M) (desk_of : M → List ℕ) (shelf shelf_after : S)
+pub remember-answer : {S F M : Type 0} (s : ShelfGhosts S) (told : ToldMemories F M)
+    (m : MemoryGhosts M) (desk_of : M → List ℕ) (shelf shelf_after : S)
     (memories memories_after : F) (names : RememberNames) (named : Option RememberNames)
     (states : NumberedEntries) (status : Status)
     → Some names ≡ named
@@ -80,7 +74,7 @@ fails-words : (result : Option MemoryFault) (status : Status) (Rest : Type 0)
 fails-words None status Rest puts fails is = puts refl is
 fails-words (Some fault) status Rest puts fails is = unkept-words fault (rw fails.0 at is)
 
-departs-words : {M W : Type 0} (m : memory.Ghosts M) (w : sink.Ghosts W) (opened left : M)
+departs-words : {M W : Type 0} (m : MemoryGhosts M) (w : SinkGhosts W) (opened left : M)
     (old new : W) (names : MoveNames) (entries : List Entry)
     (departs : Result (Option Entry) Unfit) (status : Status)
     → Departs m w opened left old new names entries departs status → status ≡ Words → ⊥
@@ -95,8 +89,8 @@ departs-words m w opened left old new names entries (Ok (Some gone)) status (inr
     fails-words so.result status _
     (λ none. puts-words w old new _ status (so.puts none)) so.fails is
 
-pub move-answer : {F M W : Type 0} (told : ToldMemories F M) (m : memory.Ghosts M)
-    (desk_of : M → List ℕ) (w : sink.Ghosts W) (memories memories_after : F) (old new : W)
+pub move-answer : {F M W : Type 0} (told : ToldMemories F M) (m : MemoryGhosts M)
+    (desk_of : M → List ℕ) (w : SinkGhosts W) (memories memories_after : F) (old new : W)
     (names : MoveNames) (named : Option MoveNames) (status : Status)
     → Some names ≡ named
     → UsesIf told m desk_of memories memories_after names.memory status (new ≡ old)
@@ -115,7 +109,7 @@ move-answer told m desk_of w memories memories_after old new names named status 
       sink_counted = counts;
     })
 
-adopts-words : {M : Type 0} (m : memory.Ghosts M) (opened left : M) (entries lines : List Entry)
+adopts-words : {M : Type 0} (m : MemoryGhosts M) (opened left : M) (entries lines : List Entry)
     (fault : Option FaultAt) (status : Status)
     → AdoptsIf m opened left entries lines fault status → status ≡ Words → ⊥
 adopts-words m opened left entries lines (Some fault) status so is = cc (so.0, is)
@@ -123,8 +117,8 @@ adopts-words m opened left entries lines None status (inl memory) is = cc (memor
 adopts-words m opened left entries lines None status (inr notes) is =
     notes-words m opened left _ status notes is
 
-pub unread-answer : {S F M V : Type 0} (s : shelves.Ghosts S) (told : ToldMemories F M)
-    (m : memory.Ghosts M) (desk_of : M → List ℕ) (shelf shelf_after : S) (memories : F)
+pub unread-answer : {S F M V : Type 0} (s : ShelfGhosts S) (told : ToldMemories F M)
+    (m : MemoryGhosts M) (desk_of : M → List ℕ) (shelf shelf_after : S) (memories : F)
     (names : AdoptNames) (named : Option AdoptNames) (rest : V → RowOf NumberedEntries)
     (refusal : Refusal)
     → Some names ≡ named
@@ -140,8 +134,8 @@ unread-answer s told m desk_of shelf shelf_after memories names named rest refus
       kept = reads.kept;
     })
 
-pub adopt-answer : {S F M : Type 0} (s : shelves.Ghosts S) (told : ToldMemories F M)
-    (m : memory.Ghosts M) (desk_of : M → List ℕ) (shelf shelf_after : S)
+pub adopt-answer : {S F M : Type 0} (s : ShelfGhosts S) (told : ToldMemories F M)
+    (m : MemoryGhosts M) (desk_of : M → List ℕ) (shelf shelf_after : S)
     (memories memories_after : F) (names : AdoptNames) (named : Option AdoptNames)
     (lines : NumberedEntries) (status : Status)
     → Some names ≡ named

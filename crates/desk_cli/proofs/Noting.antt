@@ -1,22 +1,18 @@
 -- A memory in which entries are noted, one after the other, and which then settles.
-use Rattle.std.proofs.Common.{◌≡◌, ◌∙◌, ◌<◌, ◌≤◌, ◌+◌, ◌++◌, ◌∷◌, ◌⊎◌, ℕ, List, [], length, refl, take, get_or, Result, Ok, Err, inl, inr, ap, sym, arith}
-use Rattle.std.specs.Prelude.{IfErr, IsErrAnd, OnOk}
-use Rattle.std.specs.Result.{result_err}
-use Rattle.std.proofs.lemmas.List.{take_more}
-use Rattle.desk_memory.specs.declared.memory.Memory as memory
-use Rattle.desk_memory.specs.{declared.memory_fault.MemoryFault.MemoryFault, Entry.{Entry, with_entries, with_entry}, Kept.{IsKept, LeavesOr}}
+use Rattle.std.{proofs.{Common.{◌≡◌, ◌∙◌, ◌<◌, ◌≤◌, ◌+◌, ◌++◌, ◌∷◌, ◌⊎◌, ℕ, List, [], length, refl, take, get_or, Result, Ok, Err, inl, inr, ap, sym, arith}, lemmas.List.take_more}, specs.{Prelude.{IfErr, IsErrAnd, OnOk}, Result.result_err}}
+use Rattle.desk_memory.specs.{declared.{memory.Memory.Ghosts as MemoryGhosts, memory_fault.MemoryFault.MemoryFault}, Entry.{Entry, with_entries, with_entry}, Kept.{IsKept, LeavesOr}}
 use Rattle.verifier_desk.specs.Serving.{HasFailed}
 use Rattle.desk_cli.specs.Noting.{HasNoted}
 
 -- these entries were noted, and the memory has not settled
-pub record Notes {M : Type 0} (m : memory.Ghosts M) (opened now : M) (entries : List Entry)
+pub record Notes {M : Type 0} (m : MemoryGhosts M) (opened now : M) (entries : List Entry)
     : Type 0 where
   pub has : (had : List Entry) → m.stands opened had → m.stands now (with_entries had entries)
   pub crash : (found : List Entry) → m.may_leave now found → m.may_leave opened found
   pub honest : m.is_honest now → m.is_honest opened
   pub counted : m.faults opened ≤ m.faults now
 
-pub notes-none : {M : Type 0} (m : memory.Ghosts M) (opened : M) → Notes m opened opened []
+pub notes-none : {M : Type 0} (m : MemoryGhosts M) (opened : M) → Notes m opened opened []
 notes-none m opened = record {
   has = λ had stands. stands;
   crash = λ found leaves. leaves;
@@ -39,7 +35,7 @@ entries-next had entries i d entry below is =
     ∙ ap (λ (next : Entry). with_entry (with_entries had (take i entries)) next) (sym is)
 
 -- one more was noted
-pub notes-next : {M : Type 0} (m : memory.Ghosts M) (opened mid now : M) (entries : List Entry)
+pub notes-next : {M : Type 0} (m : MemoryGhosts M) (opened mid now : M) (entries : List Entry)
     (i : ℕ) (d entry : Entry)
     → i < length entries → entry ≡ get_or entries i d
     → Notes m opened mid (take i entries)
@@ -57,7 +53,7 @@ notes-next m opened mid now entries i d entry below is notes honest noted crash 
 }
 
 -- a call that failed later has failed since the memory was opened
-failed-since : {M : Type 0} (m : memory.Ghosts M) (opened mid now : M) (fault : MemoryFault)
+failed-since : {M : Type 0} (m : MemoryGhosts M) (opened mid now : M) (fault : MemoryFault)
     → m.faults opened ≤ m.faults mid
     → HasFailed m mid now fault → HasFailed m opened now fault
 failed-since m opened mid now fault counted (inl lacks) = inl lacks
@@ -65,7 +61,7 @@ failed-since m opened mid now fault counted (inr (inl more)) = inr (inl (omega a
 failed-since m opened mid now fault counted (inr (inr most)) = inr (inr most)
 
 -- an entry was not noted
-pub note-failed : {M V : Type 0} (m : memory.Ghosts M) (opened mid now : M)
+pub note-failed : {M V : Type 0} (m : MemoryGhosts M) (opened mid now : M)
     (noted all : List Entry) (fault : MemoryFault) (result : Result V MemoryFault)
     → Notes m opened mid noted
     → (m.is_honest now → m.is_honest mid)
@@ -82,7 +78,7 @@ note-failed m opened mid now noted all fault (Err error) notes honest crash fail
       whole = λ now_honest found leaves. inl (notes.crash found (crash found leaves));
     })
 
-whole-where : {M : Type 0} (m : memory.Ghosts M) (opened mid : M) (entries all found : List Entry)
+whole-where : {M : Type 0} (m : MemoryGhosts M) (opened mid : M) (entries all found : List Entry)
     → Notes m opened mid entries
     → m.may_leave mid found ⊎ (found ≡ all)
     → m.may_leave opened found ⊎ (found ≡ all)
@@ -90,7 +86,7 @@ whole-where m opened mid entries all found notes (inl leaves) = inl (notes.crash
 whole-where m opened mid entries all found notes (inr same) = inr same
 
 -- all were noted, and the memory settled, or did not
-pub notes-settled : {M V : Type 0} (m : memory.Ghosts M) (opened mid now : M)
+pub notes-settled : {M V : Type 0} (m : MemoryGhosts M) (opened mid now : M)
     (entries had : List Entry) (result : Result V MemoryFault)
     → Notes m opened mid entries
     → (m.is_honest now → m.is_honest mid)

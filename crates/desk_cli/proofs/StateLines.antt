@@ -1,17 +1,13 @@
 -- The lines of entries are read as these entries.
-use Rattle.std.proofs.{Common.{◌≡◌, ◌∙◌, ℕ, ◌+◌, ◌<◌, ◌≤◌, ◌&&◌, Bool, true, false, List, [], ◌∷◌, ◌++◌, Option, Some, None, IfSome, Ok, Err, length, drop, append_assoc, append-nil, refl, ap, subst, sym, arith, rules, suc, inl, inr}, lemmas.{Bool.{and_from, and_parts, eqb-true, leb-true, le-leb, lt-ltb, cases_Bool}, Str.{IsUtf8-nil, IsUtf8-append}}}
-use Rattle.std.specs.{Prelude.{◌==◌, ◌||◌, nat_le, nat_lt, IsUtf8}, Int.is_in_range, List.{list_all, All}, Str.Lines.lines}
-use Rattle.text_scan.specs.{LineFold.{lines_fold, text_fold, numbered_lines}, Word.{is_passed_over, says_nothing}, declared.fault_kind.FaultKind.TheVariants.Digit}
+use Rattle.std.{proofs.{Common.{◌≡◌, ◌∙◌, ℕ, ◌+◌, ◌<◌, ◌≤◌, ◌&&◌, Bool, true, false, List, [], ◌∷◌, ◌++◌, Option, Some, None, IfSome, Ok, Err, length, drop, append_assoc, append-nil, refl, ap, subst, sym, arith, rules, suc, inl, inr}, lemmas.{Bool.{and_from, and_parts, eqb-true, leb-true, le-leb, lt-ltb, cases_Bool}, Str.{IsUtf8-nil, IsUtf8-append}}}, specs.{Prelude.{◌==◌, ◌||◌, nat_le, nat_lt, IsUtf8}, Int.is_in_range, List.{list_all, All}, Str.Lines.lines}}
+use Rattle.text_scan.{specs.{LineFold.{lines_fold, text_fold, numbered_lines}, Word.{is_passed_over, says_nothing}, declared.fault_kind.FaultKind.TheVariants.Digit}, proofs.{PlainWords.plain-encoded, TextUtf8.utf8_of-whole}}
 use Rattle.named_value.specs.Names.{IsPlainWord, is_plain}
 use Rattle.printed_lines.specs.Line.{line_of, with_pieces}
-use Rattle.line_buffer.specs.LineLaw.{ArePieces, IsFirstLine}
-use Rattle.line_buffer.proofs.PieceLines.{first_line, utf8_line}
-use Rattle.text_scan.proofs.{PlainWords.plain-encoded, TextUtf8.utf8_of-whole}
+use Rattle.line_buffer.{specs.LineLaw.{ArePieces, IsFirstLine}, proofs.PieceLines.{first_line, utf8_line}}
 use Rattle.desk_memory.specs.{declared.answer.Answer.Answer, Entry.{Entry, first_home, last_in, with_entries, is_short, is_short_answer, is_short_line, is_short_number, is_replaced, with_entry}}
 use Rattle.desk_database.proofs.TableRows.{answer-are, short-plain}
 use Rattle.verifier_desk.specs.DeviceKey.{is_name_character, name_fault}
-use Rattle.desk_cli.specs.{declared.line_form.LineForm.{LineForm, TheVariants.{VersionOne, Here, Gone}}, ReadBack.{AreNotable, IsWritable, StatesReadBack, VersionOneReadsBack}, StateFile.{entry_of, goes_behind, goes_on, is_in_range as ranged, states_of, with_line}, StateText.{desk_pieces, form_for, form_name, last_pieces, moves_pieces, number_piece, state_pieces, state_line, text_by, version_one_line}}
-use Rattle.desk_cli.proofs.{StatesBehind.{stand_behind, noted-behind}, StatesGoOn.{go_on, noted-goes-on}, StateWords.{sizes, state-line-read, version-one-read}}
+use Rattle.desk_cli.{specs.{declared.line_form.LineForm.{LineForm, TheVariants.{VersionOne, Here, Gone}}, ReadBack.{AreNotable, IsWritable, StatesReadBack, VersionOneReadsBack}, StateFile.{entry_of, goes_behind, goes_on, is_in_range as ranged, states_of, with_line}, StateText.{desk_pieces, form_for, form_name, last_pieces, moves_pieces, number_piece, state_pieces, state_line, text_by, version_one_line}}, proofs.{StatesBehind.{stand_behind, noted-behind}, StatesGoOn.{go_on, noted-goes-on}, StateWords.{sizes, state-line-read, version-one-read}}}
 
 -- Entries as desks note them can be written, and each goes behind those before it and on from them.
 

@@ -1,14 +1,8 @@
 -- The words of an entry's line, and what they are read as.
-use Rattle.std.proofs.Common.{◌≡◌, ℕ, ◌^◌, ◌<◌, ◌≤◌, Bool, true, false, List, [], ◌∷◌, ◌++◌, Option, Some, None, IfSome, Ok, length, append_assoc, refl, arith, rules}
-use Rattle.std.specs.Prelude.{◌==◌, ◌&&◌, codes}
-use Rattle.std.specs.Fmt.{decimal}
-use Rattle.std.specs.Str.{bytes_eq}
-use Rattle.std.proofs.lemmas.Bool.{and_parts, eqb-true, leb-true}
-use Rattle.std.proofs.lemmas.Slice.Eq.{bytes_eq-Decides}
+use Rattle.std.{proofs.{Common.{◌≡◌, ℕ, ◌^◌, ◌<◌, ◌≤◌, Bool, true, false, List, [], ◌∷◌, ◌++◌, Option, Some, None, IfSome, Ok, length, append_assoc, refl, arith, rules}, lemmas.{Bool.{and_parts, eqb-true, leb-true}, Slice.Eq.bytes_eq-Decides}}, specs.{Prelude.{◌==◌, ◌&&◌, codes}, Fmt.decimal, Str.bytes_eq}}
 use Rattle.printed_lines.specs.Line.{with_pieces}
-use Rattle.text_scan.specs.{Decimal.decimal_of, WordValue.hex_block_of, FaultName.fault_name}
+use Rattle.text_scan.{specs.{Decimal.decimal_of, WordValue.hex_block_of, FaultName.fault_name}, proofs.{NamedWord.value_of-name, PlainWords.{decimal_of-decimal, hex_bytes_of-digits}}}
 use Rattle.named_value.specs.Names.{value_named}
-use Rattle.text_scan.proofs.{NamedWord.value_of-name, PlainWords.{decimal_of-decimal, hex_bytes_of-digits}}
 use Rattle.report_verifier.specs.Verdict.{verdict_name}
 use Rattle.desk_memory.specs.{declared.{answer.Answer.{Answer, TheVariants.{Stale, Bad, Spent, Requested, Judged}}, device_state.DeviceState.DeviceState}, AnswerReader.{answer_text, answer_words}, Entry.{Entry, first_home, is_short, is_short_answer, is_short_line, is_short_number, is_sized}}
 use Rattle.desk_database.proofs.TableRows.{answer-read, count-read, short}

@@ -1,15 +1,8 @@
 -- Entries each of which goes behind those before it.
-use Rattle.std.proofs.Common.{◌≡◌, ◌∙◌, ℕ, suc, Bool, true, ◌&&◌, List, [], ◌∷◌, ◌++◌, Option, Some, None, Ok, append_assoc, append-nil, length, refl, ap, inl, inr, sym, arith}
-use Rattle.std.specs.Prelude.{◌==◌, not}
-use Rattle.std.specs.Option.{is_some}
-use Rattle.std.specs.Str.{bytes_eq}
-use Rattle.std.proofs.lemmas.Bool.{and_from, and_parts, cases_Bool, eqb-false, eqb-true}
-use Rattle.std.proofs.lemmas.Slice.Eq.{bytes_eq-Decides}
-use Rattle.desk_memory.specs.{DeviceState.new_device, Entry.{Entry, first_home, is_replaced, owner_in, last_in, with_entries, with_entry, place_for}}
-use Rattle.desk_memory.proofs.Places.{with_entry-push}
+use Rattle.std.{proofs.{Common.{◌≡◌, ◌∙◌, ℕ, suc, Bool, true, ◌&&◌, List, [], ◌∷◌, ◌++◌, Option, Some, None, Ok, append_assoc, append-nil, length, refl, ap, inl, inr, sym, arith}, lemmas.{Bool.{and_from, and_parts, cases_Bool, eqb-false, eqb-true}, Slice.Eq.bytes_eq-Decides}}, specs.{Prelude.{◌==◌, not}, Option.is_some, Str.bytes_eq}}
+use Rattle.desk_memory.{specs.{DeviceState.new_device, Entry.{Entry, first_home, is_replaced, owner_in, last_in, with_entries, with_entry, place_for}}, proofs.Places.with_entry-push}
 use Rattle.verifier_desk.specs.KeyOwner.{IsFreeFor}
-use Rattle.desk_cli.specs.StateFile.{entry_fault, goes_behind, is_in_range, is_owner}
-use Rattle.desk_cli.proofs.Noting.{noted-last}
+use Rattle.desk_cli.{specs.StateFile.{entry_fault, goes_behind, is_in_range, is_owner}, proofs.Noting.noted-last}
 
 behind-all : (entries : List Entry) (entry : Entry) → place_for entries entry ≡ length entries
     → with_entry entries entry ≡ entries ++ entry ∷ []

@@ -1,10 +1,5 @@
 -- Entries each of which goes on from the last of its device before it.
-use Rattle.std.proofs.Common.{◌≡◌, ◌∙◌, ℕ, Bool, true, false, ◌&&◌, List, [], ◌∷◌, ◌++◌, Option, Some, None, append_assoc, append-nil, refl, ap, inl, inr, sym, subst, arith}
-use Rattle.std.specs.Prelude.{if◌then◌else◌, nat_le, not}
-use Rattle.std.specs.Option.{is_some}
-use Rattle.std.specs.Str.{bytes_eq}
-use Rattle.std.proofs.lemmas.Bool.{and_from, and_parts, cases_Bool, le-leb, leb-true}
-use Rattle.std.proofs.lemmas.Slice.Eq.{bytes_eq-Decides}
+use Rattle.std.{proofs.{Common.{◌≡◌, ◌∙◌, ℕ, Bool, true, false, ◌&&◌, List, [], ◌∷◌, ◌++◌, Option, Some, None, append_assoc, append-nil, refl, ap, inl, inr, sym, subst, arith}, lemmas.{Bool.{and_from, and_parts, cases_Bool, le-leb, leb-true}, Slice.Eq.bytes_eq-Decides}}, specs.{Prelude.{if◌then◌else◌, nat_le, not}, Option.is_some, Str.bytes_eq}}
 use Rattle.desk_memory.specs.Entry.{Entry, is_replaced, last_in, with_entry}
 use Rattle.desk_cli.specs.StateFile.{goes_on, goes_on_from, last_number}
 

@@ -1,7 +1,5 @@
 -- The lines of entries, one after another.
-use Rattle.std.proofs.Common.{◌≡◌, ◌∙◌, ◌<◌, ◌+◌, ℕ, List, [], ◌∷◌, ◌++◌, Option, Some, None, length, take, drop, get_or, take-append-drop, append_assoc, append-nil, refl, ap, sym}
-use Rattle.std.specs.Prelude.{codes}
-use Rattle.std.proofs.lemmas.List.{take_more}
+use Rattle.std.{proofs.{Common.{◌≡◌, ◌∙◌, ◌<◌, ◌+◌, ℕ, List, [], ◌∷◌, ◌++◌, Option, Some, None, length, take, drop, get_or, take-append-drop, append_assoc, append-nil, refl, ap, sym}, lemmas.List.take_more}, specs.Prelude.codes}
 use Rattle.desk_memory.specs.Entry.{Entry}
 use Rattle.printed_lines.specs.Line.{line_of, with_pieces}
 use Rattle.line_buffer.proofs.PieceLines.{line_of-parts}

@@ -1,11 +1,9 @@
 -- The command `adopt`: devices come into the memory of a desk, by the lines by which they moved to
 -- that desk.
 use Rattle.std.specs.Prelude.{◌≡◌, ◌⊎◌, ◌↔◌, ◌+◌, ℕ, List, [], ◌∷◌, slice_index_or, Option, Some, None, IfSome, Ok}
-use Rattle.outside_edge.specs.Shelf.{KeepsFiles}
-use Rattle.outside_edge.specs.declared.shelf.Shelf as shelves
+use Rattle.outside_edge.specs.{Shelf.KeepsFiles, declared.shelf.Shelf.Ghosts as ShelfGhosts}
 use Rattle.text_scan.specs.{declared.{fault_at.FaultAt.FaultAt, fault_kind.FaultKind.FaultKind}}
-use Rattle.desk_memory.specs.declared.memory.Memory as memory
-use Rattle.desk_memory.specs.{Entry.Entry, Moving.{with_arrivals, adoption_fault}}
+use Rattle.desk_memory.specs.{declared.memory.Memory.Ghosts as MemoryGhosts, Entry.Entry, Moving.{with_arrivals, adoption_fault}}
 use Rattle.input_files.specs.{declared.{bad_file.BadFile.TheVariants.States, status.Status.{Status, TheVariants.{Bad, Memory, Words}}}, Reading.{IsUnread, Reaches}}
 use Rattle.desk_cli.specs.{Founding.states_row, MemoryFiles.{ToldMemories, UsesIf}, Noting.NotesAll, StateFile.NumberedEntries}
 
@@ -41,7 +39,7 @@ IsUntaken None status = status ≡ Memory
 IsUntaken (Some fault) status = status ≡ Bad (States fault)
 
 -- what came of lines in a memory that has these entries: one is refused, or all were adopted
-abbrev pub AdoptsIf : {M : Type 0} → memory.Ghosts M → M → M → List Entry → List Entry
+abbrev pub AdoptsIf : {M : Type 0} → MemoryGhosts M → M → M → List Entry → List Entry
     → Option FaultAt → Status → Type 0
 AdoptsIf m opened left entries lines (Some fault) status =
     (status ≡ Bad (States fault)) × (left ≡ opened)
@@ -49,15 +47,15 @@ AdoptsIf m opened left entries lines None status =
     ((status ≡ Memory) × (left ≡ opened))
     ⊎ NotesAll m opened left (with_arrivals entries lines) status
 
-abbrev pub Adopts : {M : Type 0} → memory.Ghosts M → NumberedEntries → Status → List ℕ
+abbrev pub Adopts : {M : Type 0} → MemoryGhosts M → NumberedEntries → Status → List ℕ
     → List Entry → M → M → Type 0
 Adopts m lines status desk entries opened left =
     AdoptsIf m opened left entries lines.entries (first_refused desk entries lines) status
 
 -- an answer to arguments that may name lines and a memory: the lines were refused, and no memory
 -- was opened, or it was used with them
-pub record IsAdoptAnswer {S F M : Type 0} (s : shelves.Ghosts S) (told : ToldMemories F M)
-    (m : memory.Ghosts M) (desk_of : M → List ℕ) (shelf shelf_after : S)
+pub record IsAdoptAnswer {S F M : Type 0} (s : ShelfGhosts S) (told : ToldMemories F M)
+    (m : MemoryGhosts M) (desk_of : M → List ℕ) (shelf shelf_after : S)
     (memories memories_after : F) (names : Option AdoptNames) (status : Status) : Type 0 where
   pub words : (status ≡ Words) ↔ (names ≡ None)
   pub unread : status ≡ Words → (shelf_after ≡ shelf) × (memories_after ≡ memories)

@@ -2,13 +2,9 @@
 use Rattle.std.specs.Prelude.{◌≡◌, ◌<◌, ◌≤◌, ◌⊎◌, ◌↔◌, ◌+◌, ℕ, List, [], ◌∷◌, length, Option, Some, None, IfSome, Ok}
 use Rattle.sha2.specs.Sha256.{sha256}
 use Rattle.mem_map.specs.Image.{byte_in}
-use Rattle.outside_edge.specs.{Calls.Rose, Shelf.KeepsFiles}
-use Rattle.outside_edge.specs.declared.shelf.Shelf as shelves
-use Rattle.outside_edge.specs.declared.sink.Sink as sink
-use Rattle.outside_edge.specs.declared.source.Source as source
+use Rattle.outside_edge.specs.{Calls.Rose, Shelf.KeepsFiles, declared.{shelf.Shelf.Ghosts as ShelfGhosts, sink.Sink.Ghosts as SinkGhosts, source.Source.Ghosts as SourceGhosts}}
 use Rattle.report_verifier.specs.Policy.{PolicyFields}
-use Rattle.desk_memory.specs.declared.memory.Memory as memory
-use Rattle.desk_memory.specs.{declared.no_memory.NoMemory.NoMemory, Entry.Entry, NoMemory.forgets}
+use Rattle.desk_memory.specs.{declared.{memory.Memory.Ghosts as MemoryGhosts, no_memory.NoMemory.NoMemory}, Entry.Entry, NoMemory.forgets}
 use Rattle.source_server.specs.{declared.served.Served.Served, Serving.{Serves, Ports}, Taken.{KeepsLimit, most_input}}
 use Rattle.verifier_desk.specs.{declared.answer_fault.AnswerFault.AnswerFault, Desk.desk_with, DeviceKey.{DeviceKey, first_gone}, KeyOwner.{IsFirstTaken, KeysStandApart}, Replies.DeskFields, Serving.desk_promise}
 use Rattle.input_files.specs.{declared.{status.Status.{Status, TheVariants.{BadMemory, Done, Memory, Spent, Words}}, unfit.Unfit.TheVariants.{GoneDevice, TakenKey}}, FileKind.image_kind, Reading.{IsUnread, Reaches, first_refusal}, Row.{RowOf, Ends, read_file}}
@@ -48,8 +44,8 @@ desk_row names =
     Ends (Ok (record { devices = devices; image = image; policy = policy })))))
 
 -- a desk served the source over a memory
-pub record HasServed {R M W : Type 0} (r : source.Ghosts R) (m : memory.Ghosts M)
-    (w : sink.Ghosts W) (desk : DeskFields) (opened left : M) (old new : Ports R W)
+pub record HasServed {R M W : Type 0} (r : SourceGhosts R) (m : MemoryGhosts M)
+    (w : SinkGhosts W) (desk : DeskFields) (opened left : M) (old new : Ports R W)
     (status : Status) : Type 0 where
   pub ended : Served AnswerFault
   pub answer : status ≡ status_of_served ended
@@ -72,7 +68,7 @@ pub record IsGone (devices : List DeviceKey) (entries : List Entry) (status : St
 
 -- what came of a memory that has these entries: a key is taken, a device is gone or memory ran out,
 -- and it stays as it is, or the desk served the source
-abbrev pub Meets : {R M W : Type 0} → source.Ghosts R → memory.Ghosts M → sink.Ghosts W
+abbrev pub Meets : {R M W : Type 0} → SourceGhosts R → MemoryGhosts M → SinkGhosts W
     → DeskValues → Ports R W → Ports R W → Status → List ℕ → List Entry → M → M → Type 0
 Meets r m w values old new status desk entries opened left =
     ((IsTaken values.devices entries status ⊎ IsGone values.devices entries status
@@ -83,8 +79,8 @@ Meets r m w values old new status desk entries opened left =
     old new status)
 
 -- the desk of these files served the source: with no memory, or over that of a name
-abbrev pub ServesFrom : {F R M W : Type 0} → ToldMemories F M → source.Ghosts R
-    → memory.Ghosts M → (M → List ℕ) → sink.Ghosts W → DeskValues → Option (List ℕ) → F → F
+abbrev pub ServesFrom : {F R M W : Type 0} → ToldMemories F M → SourceGhosts R
+    → MemoryGhosts M → (M → List ℕ) → SinkGhosts W → DeskValues → Option (List ℕ) → F → F
     → Ports R W → Ports R W → Status → Type 0
 ServesFrom told r m desk_of w values None memories memories_after old new status =
     (memories_after ≡ memories)
@@ -97,7 +93,7 @@ ServesFrom told r m desk_of w values (Some name) memories memories_after old new
 
 -- a memory of a name can be opened and served: nothing hinders that, the keys of these devices
 -- stand apart in it, and none is gone
-abbrev pub MayServe : {F M : Type 0} → ToldMemories F M → memory.Ghosts M → List DeviceKey
+abbrev pub MayServe : {F M : Type 0} → ToldMemories F M → MemoryGhosts M → List DeviceKey
     → Option (List ℕ) → F → F → Type 0
 MayServe told m devices None old new = Unit {0}
 MayServe told m devices (Some name) old new =
@@ -106,8 +102,8 @@ MayServe told m devices (Some name) old new =
     → KeysStandApart sha256 devices entries × (first_gone entries 0 devices ≡ None))
 
 -- an answer to arguments that may name its files
-pub record IsDeskAnswer {S F R M W : Type 0} (s : shelves.Ghosts S) (told : ToldMemories F M)
-    (r : source.Ghosts R) (m : memory.Ghosts M) (desk_of : M → List ℕ) (w : sink.Ghosts W)
+pub record IsDeskAnswer {S F R M W : Type 0} (s : ShelfGhosts S) (told : ToldMemories F M)
+    (r : SourceGhosts R) (m : MemoryGhosts M) (desk_of : M → List ℕ) (w : SinkGhosts W)
     (shelf shelf_after : S) (memories memories_after : F) (old new : Ports R W)
     (names : Option DeskNames) (status : Status) : Type 0 where
   pub words : (status ≡ Words) ↔ (names ≡ None)

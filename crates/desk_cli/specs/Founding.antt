@@ -1,10 +1,8 @@
 -- The commands `found` and `remember`: a new memory of a desk, with the entries that a text has, or
 -- with none.
 use Rattle.std.specs.Prelude.{◌≡◌, ◌⊎◌, ◌↔◌, Bool, ℕ, List, [], ◌∷◌, if◌then◌else◌, Option, Some, None, IfSome, Ok, is_ok}
-use Rattle.outside_edge.specs.Shelf.{KeepsFiles}
-use Rattle.outside_edge.specs.declared.shelf.Shelf as shelves
-use Rattle.desk_memory.specs.declared.memory.Memory as memory
-use Rattle.desk_memory.specs.Entry.{Entry, with_entries}
+use Rattle.outside_edge.specs.{Shelf.KeepsFiles, declared.shelf.Shelf.Ghosts as ShelfGhosts}
+use Rattle.desk_memory.specs.{declared.memory.Memory.Ghosts as MemoryGhosts, Entry.{Entry, with_entries}}
 use Rattle.verifier_desk.specs.DeviceKey.{name_fault}
 use Rattle.input_files.specs.{declared.status.Status.{Status, TheVariants.Words}, Reading.{IsUnread, Reaches}, Row.{RowOf, Ends, read_file}}
 use Rattle.desk_cli.specs.{FileKind.states_kind, MemoryFiles.{IsMade, LacksMemory, Making, ToldMemories}, Noting.NotesAll, StateFile.NumberedEntries}
@@ -25,7 +23,7 @@ found_names_of (memory ∷ desk ∷ []) =
 found_names_of arguments = None
 
 -- a memory was made for a desk, was to keep all of these entries, and was closed as it was left
-pub record Founds {F M : Type 0} (told : ToldMemories F M) (m : memory.Ghosts M)
+pub record Founds {F M : Type 0} (told : ToldMemories F M) (m : MemoryGhosts M)
     (desk_of : M → List ℕ) (memories memories_after : F) (names : FoundNames)
     (entries : List Entry) (status : Status) : Type 0 where
   pub opened : M
@@ -36,14 +34,14 @@ pub record Founds {F M : Type 0} (told : ToldMemories F M) (m : memory.Ghosts M)
   pub closed : told.left memories_after ≡ Some left
 
 -- or none was made, which is the answer
-abbrev pub FoundsIf : {F M : Type 0} → ToldMemories F M → memory.Ghosts M → (M → List ℕ) → F → F
+abbrev pub FoundsIf : {F M : Type 0} → ToldMemories F M → MemoryGhosts M → (M → List ℕ) → F → F
     → FoundNames → List Entry → Status → Type 0
 FoundsIf told m desk_of memories memories_after names entries status =
     LacksMemory told Making memories memories_after names.memory status
     ⊎ Founds told m desk_of memories memories_after names entries status
 
 -- an answer to arguments that may name a memory and its desk
-pub record IsFoundAnswer {F M : Type 0} (told : ToldMemories F M) (m : memory.Ghosts M)
+pub record IsFoundAnswer {F M : Type 0} (told : ToldMemories F M) (m : MemoryGhosts M)
     (desk_of : M → List ℕ) (memories memories_after : F) (names : Option FoundNames)
     (status : Status) : Type 0 where
   pub words : (status ≡ Words) ↔ (names ≡ None)
@@ -71,8 +69,8 @@ states_row name = read_file states_kind name (λ states. Ends (Ok states))
 
 -- an answer to arguments that may name its file, a memory and a desk: the file was refused, and no
 -- memory was opened, or one was to be made with its entries
-pub record IsRememberAnswer {S F M : Type 0} (s : shelves.Ghosts S) (told : ToldMemories F M)
-    (m : memory.Ghosts M) (desk_of : M → List ℕ) (shelf shelf_after : S)
+pub record IsRememberAnswer {S F M : Type 0} (s : ShelfGhosts S) (told : ToldMemories F M)
+    (m : MemoryGhosts M) (desk_of : M → List ℕ) (shelf shelf_after : S)
     (memories memories_after : F) (names : Option RememberNames) (status : Status)
     : Type 0 where
   pub words : (status ≡ Words) ↔ (names ≡ None)

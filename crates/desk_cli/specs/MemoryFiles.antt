@@ -1,8 +1,7 @@
 -- Memories that are opened or made by their names: what is found in one, and why one is not got.
 use Rattle.std.specs.Prelude.{◌≡◌, ◌⊎◌, ℕ, List, [], Option, Some, IfSome}
 use Rattle.outside_edge.specs.Calls.{Rose}
-use Rattle.desk_memory.specs.declared.memory.Memory as memory
-use Rattle.desk_memory.specs.Entry.{Entry}
+use Rattle.desk_memory.specs.{declared.memory.Memory.Ghosts as MemoryGhosts, Entry.Entry}
 use Rattle.desk_database.specs.{declared.memory_file_fault.MemoryFileFault.{MemoryFileFault, TheVariants.OutOfMemory}}
 use Rattle.verifier_desk.specs.Serving.{Keeps}
 use Rattle.input_files.specs.declared.status.Status.{Status}
@@ -29,14 +28,14 @@ pub record ToldMemories (F M : Type 0) : Type 1 where
 
 -- a memory was opened, as what is there can be: it has the desk and the entries that were found
 -- under its name, and keeps them
-pub record IsOpened {F M : Type 0} (told : ToldMemories F M) (m : memory.Ghosts M) (memories : F)
+pub record IsOpened {F M : Type 0} (told : ToldMemories F M) (m : MemoryGhosts M) (memories : F)
     (name : List ℕ) (now : M) (desk : List ℕ) (entries : List Entry) : Type 0 where
   pub keeps : Keeps m now entries
   pub fit : m.is_honest now → told.fits Opening memories name
   pub found : m.is_honest now → told.finds memories name desk entries
 
 -- a memory was made, as it can be of what is there: it has no entry, and nothing of it is kept yet
-pub record IsMade {F M : Type 0} (told : ToldMemories F M) (m : memory.Ghosts M) (memories : F)
+pub record IsMade {F M : Type 0} (told : ToldMemories F M) (m : MemoryGhosts M) (memories : F)
     (name : List ℕ) (now : M) : Type 0 where
   pub has : m.stands now []
   pub fit : m.is_honest now → told.fits Making memories name
@@ -58,7 +57,7 @@ pub record LacksMemory {F M : Type 0} (told : ToldMemories F M) (asked : Request
   pub unopened : IsUnopened told asked memories memories_after name fault
 
 -- a memory was opened, something was done with it, and it was closed as it was left
-pub record Uses {F M : Type 0} (told : ToldMemories F M) (m : memory.Ghosts M)
+pub record Uses {F M : Type 0} (told : ToldMemories F M) (m : MemoryGhosts M)
     (desk_of : M → List ℕ) (memories memories_after : F) (name : List ℕ)
     (Does : List ℕ → List Entry → M → M → Type 0) : Type 0 where
   pub opened : M
@@ -69,7 +68,7 @@ pub record Uses {F M : Type 0} (told : ToldMemories F M) (m : memory.Ghosts M)
   pub closed : told.left memories_after ≡ Some left
 
 -- or it was not opened, which is the answer, and nothing else was done
-abbrev pub UsesIf : {F M : Type 0} → ToldMemories F M → memory.Ghosts M → (M → List ℕ) → F → F
+abbrev pub UsesIf : {F M : Type 0} → ToldMemories F M → MemoryGhosts M → (M → List ℕ) → F → F
     → List ℕ → Status → Type 0 → (List ℕ → List Entry → M → M → Type 0) → Type 0
 UsesIf told m desk_of memories memories_after name status Nothing Does =
     (LacksMemory told Opening memories memories_after name status × Nothing)
@@ -77,7 +76,7 @@ UsesIf told m desk_of memories memories_after name status Nothing Does =
 
 -- nothing but a lack of memory keeps the memory of a name from being opened, and none of its calls
 -- has failed
-pub record IsUnhindered {F M : Type 0} (told : ToldMemories F M) (m : memory.Ghosts M)
+pub record IsUnhindered {F M : Type 0} (told : ToldMemories F M) (m : MemoryGhosts M)
     (old new : F) (name : List ℕ) : Type 0 where
   pub free : (fault : MemoryFileFault) → told.fails Opening old new name fault
       → fault ≡ OutOfMemory

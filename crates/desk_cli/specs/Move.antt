@@ -1,9 +1,7 @@
 -- The command `move`: a device goes from the memory of its desk to another desk.
-use Rattle.std.specs.Prelude.{◌≡◌, ◌≤◌, ◌⊎◌, ◌↔◌, ◌==◌, ◌&&◌, ℕ, List, [], ◌∷◌, if◌then◌else◌, not, Option, Some, None, IfSome, Result, Ok, Err}
-use Rattle.std.specs.Str.{bytes_eq}
-use Rattle.outside_edge.specs.declared.sink.Sink as sink
-use Rattle.desk_memory.specs.declared.memory.Memory as memory
-use Rattle.desk_memory.specs.{declared.memory_fault.MemoryFault.MemoryFault, AnswerReader.most_number, Entry.{Entry, Home, home_of, last_in}, Moving.{with_departure, gone_to, is_gone_to, is_here, moved_lines}}
+use Rattle.std.specs.{Prelude.{◌≡◌, ◌≤◌, ◌⊎◌, ◌↔◌, ◌==◌, ◌&&◌, ℕ, List, [], ◌∷◌, if◌then◌else◌, not, Option, Some, None, IfSome, Result, Ok, Err}, Str.bytes_eq}
+use Rattle.outside_edge.specs.declared.sink.Sink.{Ghosts as SinkGhosts}
+use Rattle.desk_memory.specs.{declared.{memory.Memory.Ghosts as MemoryGhosts, memory_fault.MemoryFault.MemoryFault}, AnswerReader.most_number, Entry.{Entry, Home, home_of, last_in}, Moving.{with_departure, gone_to, is_gone_to, is_here, moved_lines}}
 use Rattle.input_files.specs.{declared.{status.Status.{Status, TheVariants.{BadMemory, Memory, Words}}, unfit.Unfit.{Unfit, TheVariants.{Gone, LastMove, NoDevice, OwnDesk}}}}
 use Rattle.desk_cli.specs.{Founding.is_name, MemoryFiles.{ToldMemories, UsesIf}, Noting.HasNoted, States.PutsText, StateText.states_text, Status.status_of_unkept}
 
@@ -47,7 +45,7 @@ abbrev pub moves_text : List ℕ → List Entry → List ℕ
 moves_text device entries = states_text (moved_lines device entries)
 
 -- the memory keeps these entries before the text is put; or it failed, and nothing is put
-pub record KeepsAndPuts {M W : Type 0} (m : memory.Ghosts M) (w : sink.Ghosts W)
+pub record KeepsAndPuts {M W : Type 0} (m : MemoryGhosts M) (w : SinkGhosts W)
     (opened left : M) (old new : W) (entries : List Entry) (text : List ℕ) (status : Status)
     : Type 0 where
   pub result : Option MemoryFault
@@ -56,7 +54,7 @@ pub record KeepsAndPuts {M W : Type 0} (m : memory.Ghosts M) (w : sink.Ghosts W)
   pub fails : IfSome result (λ fault. (status ≡ status_of_unkept fault) × (new ≡ old))
 
 -- what came of a departure, in a memory that has these entries
-abbrev pub Departs : {M W : Type 0} → memory.Ghosts M → sink.Ghosts W → M → M → W → W
+abbrev pub Departs : {M W : Type 0} → MemoryGhosts M → SinkGhosts W → M → M → W → W
     → MoveNames → List Entry → Result (Option Entry) Unfit → Status → Type 0
 Departs m w opened left old new names entries (Err unfit) status =
     (status ≡ BadMemory unfit) × (left ≡ opened) × (new ≡ old)
@@ -69,15 +67,15 @@ Departs m w opened left old new names entries (Ok (Some gone)) status =
     ⊎ KeepsAndPuts m w opened left old new (with_departure names.device names.desk entries)
     (moves_text names.device (with_departure names.device names.desk entries)) status
 
-abbrev pub Moves : {M W : Type 0} → memory.Ghosts M → sink.Ghosts W → W → W → MoveNames → Status
+abbrev pub Moves : {M W : Type 0} → MemoryGhosts M → SinkGhosts W → W → W → MoveNames → Status
     → List ℕ → List Entry → M → M → Type 0
 Moves m w old new names status desk entries opened left =
     Departs m w opened left old new names entries
     (departure desk names.desk (last_in entries names.device)) status
 
 -- an answer to arguments that may name a memory, a device and a desk
-pub record IsMoveAnswer {F M W : Type 0} (told : ToldMemories F M) (m : memory.Ghosts M)
-    (desk_of : M → List ℕ) (w : sink.Ghosts W) (memories memories_after : F) (old new : W)
+pub record IsMoveAnswer {F M W : Type 0} (told : ToldMemories F M) (m : MemoryGhosts M)
+    (desk_of : M → List ℕ) (w : SinkGhosts W) (memories memories_after : F) (old new : W)
     (names : Option MoveNames) (status : Status) : Type 0 where
   pub words : (status ≡ Words) ↔ (names ≡ None)
   pub unread : status ≡ Words → (memories_after ≡ memories) × (new ≡ old)

@@ -1,7 +1,6 @@
 -- The text of the entries that desks have noted reads back as these entries, and so does the text
 -- that version 1 printed.
-use Rattle.std.specs.Prelude.{◌≡◌, Bool, true, ℕ, List, [], ◌∷◌, nat_le, Option, Some, None, IfSome, Ok, IsTrue}
-use Rattle.std.specs.List.{All}
+use Rattle.std.specs.{Prelude.{◌≡◌, Bool, true, ℕ, List, [], ◌∷◌, nat_le, Option, Some, None, IfSome, Ok, IsTrue}, List.All}
 use Rattle.hex.specs.Hex.{IsBytes}
 use Rattle.desk_memory.specs.Entry.{Entry, first_home, last_in, owner_in, with_entries, with_entry, is_sized}
 use Rattle.verifier_desk.specs.{DeviceKey.name_fault, KeyOwner.IsFreeFor}

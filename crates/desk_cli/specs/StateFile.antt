@@ -1,6 +1,5 @@
 -- The entries of a text that `states` printed, or its first fault.
-use Rattle.std.specs.Prelude.{ℕ, ◌==◌, ◌&&◌, Bool, true, List, [], ◌∷◌, ◌++◌, length, if◌then◌else◌, nat_le, not, Option, Some, None, Result, Ok, Err, codes}
-use Rattle.std.specs.Str.{bytes_eq}
+use Rattle.std.specs.{Prelude.{ℕ, ◌==◌, ◌&&◌, Bool, true, List, [], ◌∷◌, ◌++◌, length, if◌then◌else◌, nat_le, not, Option, Some, None, Result, Ok, Err, codes}, Str.bytes_eq}
 use Rattle.text_scan.specs.{declared.{fault_at.FaultAt.FaultAt, fault_kind.FaultKind.{FaultKind, TheVariants.{Order, Range, Twice}}}, Decimal.decimal_of, LineFold.{text_lines, text_fold}, Reader.◌>>=◌, Word.{words_of, next_word, keyword_of, end_of, is_passed_over}, WordValue.{hex_block_of, number_of, value_of}}
 use Rattle.desk_memory.specs.{declared.{answer.Answer.{Answer, TheVariants.Requested}, device_state.DeviceState.DeviceState}, AnswerReader.{answer_of, most_number}, Entry.{Entry, Home, first_home, last_in, owner_in, place_for}}
 use Rattle.verifier_desk.specs.{DeviceKey.name_fault, DeviceReply.LAST_COUNT}

@@ -1,6 +1,5 @@
 -- The entries of a memory as text: a line for each, the oldest first.
-use Rattle.std.specs.Prelude.{ℕ, ◌++◌, List, [], ◌∷◌, Option, Some, None, codes}
-use Rattle.std.specs.Fmt.{decimal}
+use Rattle.std.specs.{Prelude.{ℕ, ◌++◌, List, [], ◌∷◌, Option, Some, None, codes}, Fmt.decimal}
 use Rattle.hex.specs.Hex.{encode_lower}
 use Rattle.named_value.specs.Names.{Names}
 use Rattle.printed_lines.specs.Line.{line_of}

@@ -2,12 +2,10 @@
 use Rattle.std.specs.Prelude.{◌≡◌, Bool, true, false, ℕ, List, Option, Some, None, IsTrue, ⊤}
 use Rattle.outside_edge.specs.Calls.{Rose}
 use Rattle.sqlite_disk.specs.declared.Disk.{Ghosts}
-use Rattle.sqlite_wal.specs.Files.{IsHuge, outcomes}
-use Rattle.sqlite_wal.specs.Recovery.{Image}
+use Rattle.sqlite_wal.specs.{Files.{IsHuge, outcomes}, Recovery.Image}
 use Rattle.sqlite_trees.specs.Tree.{Trees}
 use Rattle.sqlite_store.specs.FileStore as file_store
-use Rattle.sqlite_store.specs.FileStore.{recovers}
-use Rattle.sqlite_store.specs.Unopened.{StopsCreating, state_of}
+use Rattle.sqlite_store.specs.{FileStore.recovers, Unopened.{StopsCreating, state_of}}
 use Rattle.desk_memory.specs.Entry.{Entry, are_sized}
 use Rattle.desk_database.specs.{Table.{FindsEntries, IsMemoryOf}, Held.{HoldsMemory, IsKept, IsSpared}, Log.stored_page, Opening.{IsCleanLeft, Leaves, WhyUnmade, WhyUnopened, faults_of, image_of}, declared.{left.Left.Left, memory_file_fault.MemoryFileFault.{MemoryFileFault, TheVariants.{Disk, Full, HotJournal, InUse, Missing, OutOfMemory, Place}}}}
 use Rattle.desk_database.specs.declared.left.Left.TheVariants as left

@@ -1,5 +1,4 @@
-ghost use Rattle.std.specs.Prelude.{◌≡◌};
-ghost use Rattle.std.specs.Result.{result_err};
+ghost use Rattle.std.specs.{Prelude.◌≡◌, Result.result_err};
 ghost use Rattle.desk_cli.specs.{Noting.status_of_noted, Status.{status_of_served, status_of_unkept, status_of_unopened}};
 
 use desk_database::MemoryFileFault;

@@ -1,6 +1,5 @@
-ghost use Rattle.std.specs.Prelude.{◌≡◌, ◌≤◌, List, Ok, option_map, IfErr, IfOk};
+ghost use Rattle.std.specs.{Prelude.{◌≡◌, ◌≤◌, List, Ok, option_map, IfErr, IfOk}, Str.bytes_eq};
 ghost use Rattle.desk_memory.specs.{Entry.{Entry as EntryFields, home_fields, last_in, with_entry}, Moving.{at_home, lines_at}};
-ghost use Rattle.std.specs.Str.{bytes_eq};
 ghost use Rattle.verifier_desk.specs.Serving.{Keeps};
 ghost use Rattle.input_files.specs.CommandLine.{texts};
 ghost use Rattle.desk_cli.specs.{Move.{IsMoveAnswer, KeepsAndPuts, Moves, Stays, departure, home_behind, move_names_of}, StateText.states_text};

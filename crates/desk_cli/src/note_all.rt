@@ -1,5 +1,4 @@
-ghost use Rattle.std.specs.Prelude.{◌≡◌, List};
-ghost use Rattle.std.specs.Result.{result_err};
+ghost use Rattle.std.specs.{Prelude.{◌≡◌, List}, Result.result_err};
 ghost use Rattle.desk_memory.specs.Entry.{Entry as EntryFields, with_entries};
 ghost use Rattle.desk_cli.specs.Noting.{HasNoted};
 

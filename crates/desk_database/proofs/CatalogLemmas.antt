@@ -1,30 +1,13 @@
 -- From the files as they were to the files once their list of objects was read.
-use Rattle.std.proofs.Common.{◌≡◌, ◌≢◌, ◌⊎◌, true, IsTrue, List, [], sym, ap, ap₂, subst, subst₂, ◌∙◌, inl, inr}
-use Rattle.std.proofs.Math.Logic.{∥∥₁_map}
-use Rattle.std.proofs.Math.Path.{subst₃}
-use Rattle.std.proofs.lemmas.Bool.{cond-true}
-use Rattle.std.proofs.lemmas.Grind.{not_there}
+use Rattle.std.proofs.{Common.{◌≡◌, ◌≢◌, ◌⊎◌, true, IsTrue, List, [], sym, ap, ap₂, subst, subst₂, ◌∙◌, inl, inr}, Math.{Logic.∥∥₁_map, Path.subst₃}, lemmas.{Bool.cond-true, Grind.not_there}}
 use Rattle.sqlite_disk.specs.declared.Disk.{Ghosts}
 use Rattle.sqlite_wal.specs.Recovery.{Image}
 use Rattle.sqlite_pages.specs.PageMap.{PageMap}
-use Rattle.sqlite_pool.specs.File.{in_use, IsSoundFile}
-use Rattle.sqlite_pool.specs.Opening.{IsBlankFile}
-use Rattle.sqlite_pool.specs.Stored.{Recovers, RecoversAs}
-use Rattle.sqlite_pool.specs.StoredLaws.{carried, readable, recovers_once, RecoversAs-from}
+use Rattle.sqlite_pool.specs.{File.{in_use, IsSoundFile}, Opening.IsBlankFile, Stored.{Recovers, RecoversAs}, StoredLaws.{carried, readable, recovers_once, RecoversAs-from}}
 use Rattle.sqlite_value.specs.Order.{Row}
-use Rattle.sqlite_trees.specs.declared.store.Shape.TheVariants.{Table}
-use Rattle.sqlite_trees.specs.Tree.{Trees, no_trees}
-use Rattle.sqlite_trees.proofs.Doubt.{no_doubt}
-use Rattle.sqlite_store.specs.declared.store.FileStore.{FileStore}
-use Rattle.sqlite_store.specs.FileStore.{state, view, schema_of, IsReady}
-use Rattle.sqlite_store.specs.Saved.{kept_schema}
-use Rattle.sqlite_store.specs.declared.store.open.Unopened.{Unopened}
-use Rattle.sqlite_store.specs.Db.{rows_at}
-use Rattle.sqlite_store.specs.Listing.{file_trees, IsOurs}
-use Rattle.sqlite_store.specs.Opening.{IsEmptyFile}
-use Rattle.sqlite_store.specs.Unopened.{state_of, wanted_by, image, HasFileAs, HasSomeFile, Opens, IsCatalogOf}
-use Rattle.desk_database.specs.{MemoryTables.{page_size, memory_schema}, Held.{HoldsMemory, HoldsBegun, HoldsNothing, LacksObjects, MayBeMemory, IsKept, IsSpared}, Opening.Finds}
-use Rattle.desk_database.proofs.HeldLemmas.{memory_lists, lists_nothing, sound_is_not_blank, as_before, begun_before, opens_spare}
+use Rattle.sqlite_trees.{specs.{declared.store.Shape.TheVariants.Table, Tree.{Trees, no_trees}}, proofs.Doubt.no_doubt}
+use Rattle.sqlite_store.specs.{declared.store.{FileStore.FileStore, open.Unopened.Unopened}, FileStore.{state, view, schema_of, IsReady}, Saved.kept_schema, Db.rows_at, Listing.{file_trees, IsOurs}, Opening.IsEmptyFile, Unopened.{state_of, wanted_by, image, HasFileAs, HasSomeFile, Opens, IsCatalogOf}}
+use Rattle.desk_database.{specs.{MemoryTables.{page_size, memory_schema}, Held.{HoldsMemory, HoldsBegun, HoldsNothing, LacksObjects, MayBeMemory, IsKept, IsSpared}, Opening.Finds}, proofs.HeldLemmas.{memory_lists, lists_nothing, sound_is_not_blank, as_before, begun_before, opens_spare}}
 
 begun_as : (a b : Image) (pages : PageMap) → Recovers page_size a pages → Recovers page_size b pages
     → HoldsBegun a → HoldsBegun b

@@ -1,8 +1,6 @@
 -- A commit with a version of its own.
 use Rattle.std.proofs.Common.{◌≡◌, ◌∙◌, ◌⊎◌, ℕ, IsTrue, ap, inl, inr}
-use Rattle.sqlite_trees.specs.Objects.{version_rows, version_tree, with_version}
-use Rattle.sqlite_trees.specs.Tree.{Trees}
-use Rattle.sqlite_trees.specs.View.{Commits, SetsTree, View}
+use Rattle.sqlite_trees.specs.{Objects.{version_rows, version_tree, with_version}, Tree.Trees, View.{Commits, SetsTree, View}}
 use Rattle.desk_database.specs.TableOpening.{IsCommitted}
 
 abbrev pub SetsVersion : View → View → ℕ → Type 0

@@ -1,13 +1,7 @@
 -- Why an open or a making fails, from one step to the next.
 use Rattle.std.proofs.Common.{◌≡◌, ℕ, ◌≤◌, subst, inl, inr, arith}
-use Rattle.sqlite_store.specs.declared.error.OpenError.{OpenError}
-use Rattle.sqlite_store.specs.declared.error.OpenError.TheVariants.{OutOfMemory, Io, Full, Refused}
-use Rattle.sqlite_store.specs.Opening.{FailsToOpen}
-use Rattle.sqlite_wal.specs.Files.{IsHuge}
-use Rattle.sqlite_wal.specs.Opening.{RefusesLog}
-use Rattle.sqlite_wal.specs.Outcome.{HasCause}
-use Rattle.sqlite_wal.specs.Recovery.{Image}
-use Rattle.sqlite_wal.specs.declared.error.Error.{Error}
+use Rattle.sqlite_store.specs.{declared.error.OpenError.{OpenError, TheVariants.{OutOfMemory, Io, Full, Refused}}, Opening.FailsToOpen}
+use Rattle.sqlite_wal.specs.{Files.IsHuge, Opening.RefusesLog, Outcome.HasCause, Recovery.Image, declared.error.Error.Error}
 use Rattle.sqlite_wal.specs.declared.error.Error.TheVariants as wal
 use Rattle.desk_database.specs.{Fault.{fault_of_probe, fault_of_store}, Log.{CanReplay, stored_page}, Opening.WhyUnread, declared.memory_file_fault.MemoryFileFault.MemoryFileFault}
 use Rattle.desk_database.specs.Opening as opening

@@ -1,8 +1,7 @@
 -- From two files to what an `Unopened` over them shows.
 use Rattle.std.proofs.Common.{◌≡◌, ◌≤◌, ◌+◌, IsTrue, refl, sym, ap, ap₂, subst, ◌∙◌, inl, inr, arith, ℕ, Bool, cond, List, [], ◌∷◌}
 use Rattle.sqlite_disk.specs.{declared.{Disk.Ghosts, Files.Files}, Events.{Event, replay, settled}, History.MayLeave}
-use Rattle.sqlite_wal.specs.{Files.{seen_image, outcomes}, Reads.{are_clean, AreClean, OnlyReads}, Recovery.Image}
-use Rattle.sqlite_wal.proofs.CleanLemmas.{both_clean}
+use Rattle.sqlite_wal.{specs.{Files.{seen_image, outcomes}, Reads.{are_clean, AreClean, OnlyReads}, Recovery.Image}, proofs.CleanLemmas.both_clean}
 use Rattle.sqlite_pool.specs.{declared.pool.Pool.Pool, Pool.{state, files}}
 use Rattle.sqlite_store.specs.{declared.store.open.Unopened.Unopened, Unopened.{state_of, files_of, image}}
 use Rattle.desk_database.specs.{Held.{IsKept, IsSpared}, Opening.{OnlyLooks, image_of, faults_of, FindsRows, Leaves}, declared.left.Left.Left}

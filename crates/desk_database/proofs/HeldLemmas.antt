@@ -1,25 +1,11 @@
 -- What the two files hold, before a step of an open and after it.
-use Rattle.std.proofs.Common.{◌≡◌, ◌≢◌, ◌<◌, ℕ, ◌⊎◌, [], refl, sym, subst, ◌∙◌, inl, inr, arith}
-use Rattle.std.proofs.Math.Logic.{∥∥₁_map}
+use Rattle.std.proofs.{Common.{◌≡◌, ◌≢◌, ◌<◌, ℕ, ◌⊎◌, [], refl, sym, subst, ◌∙◌, inl, inr, arith}, Math.Logic.∥∥₁_map}
 use Rattle.sqlite_disk.specs.declared.Disk.{Ghosts}
-use Rattle.sqlite_wal.specs.Recovery.{Image, AreWhole}
-use Rattle.sqlite_wal.specs.State.{State}
+use Rattle.sqlite_wal.specs.{Recovery.{Image, AreWhole}, State.State}
 use Rattle.sqlite_pages.specs.PageMap.{PageMap}
-use Rattle.sqlite_pool.specs.File.{in_use, version_in, IsSoundFile}
-use Rattle.sqlite_pool.specs.Opening.{IsBlankFile}
-use Rattle.sqlite_pool.specs.Stored.{Recovers, RecoversAs, IsUnreadable}
-use Rattle.sqlite_pool.specs.StoredLaws.{carried, recovers_once, trimmed_whole}
-use Rattle.sqlite_pool.proofs.ProbeLemmas.{not_blank}
-use Rattle.sqlite_pool.proofs.ResealLemmas.{adopts_of}
-use Rattle.sqlite_trees.specs.declared.store.Shape.TheVariants.{Table}
-use Rattle.sqlite_trees.specs.Tree.{Trees}
-use Rattle.sqlite_store.specs.declared.store.open.Unopened.{Unopened}
-use Rattle.sqlite_store.specs.Db.{rows_at, roots_of, trees_in}
-use Rattle.sqlite_store.specs.Listing.{all_trees, file_trees}
-use Rattle.sqlite_store.specs.Opening.{IsEmptyFile}
-use Rattle.sqlite_store.specs.Unopened.{state_of, wanted_by, image, IsUnstarted, IsAsBefore, IsOnTheWay, Creates}
-use Rattle.sqlite_store.proofs.BuildLemmas.{new_is_empty}
-use Rattle.sqlite_store.proofs.ListingLemmas.{past_version, named_tree}
+use Rattle.sqlite_pool.{specs.{File.{in_use, version_in, IsSoundFile}, Opening.IsBlankFile, Stored.{Recovers, RecoversAs, IsUnreadable}, StoredLaws.{carried, recovers_once, trimmed_whole}}, proofs.{ProbeLemmas.not_blank, ResealLemmas.adopts_of}}
+use Rattle.sqlite_trees.specs.{declared.store.Shape.TheVariants.Table, Tree.Trees}
+use Rattle.sqlite_store.{specs.{declared.store.open.Unopened.Unopened, Db.{rows_at, roots_of, trees_in}, Listing.{all_trees, file_trees}, Opening.IsEmptyFile, Unopened.{state_of, wanted_by, image, IsUnstarted, IsAsBefore, IsOnTheWay, Creates}}, proofs.{BuildLemmas.new_is_empty, ListingLemmas.{past_version, named_tree}}}
 use Rattle.desk_database.specs.{MemoryTables.{page_size, memory_schema}, Held.{HoldsMemory, HoldsBegun, HoldsNothing, HoldsEmptyTables, IsKept, IsSpared, MayBeMemory}, Log.CanReplay}
 
 -- a memory lists its table

@@ -1,12 +1,7 @@
 -- What two reads say of a log and its database.
-use Rattle.std.proofs.Common.{◌≡◌, ◌≢◌, ◌+◌, ◌<◌, ◌≤◌, ℕ, suc, Bool, true, false, List, Option, Some, IfSome, length, slice_index, refl, sym, ap, subst, subst₂, ◌∙◌, inl, inr, arith, add-zero, get_or-drop}
-use Rattle.std.specs.Prelude.{◌==◌, if◌then◌else◌}
-use Rattle.std.proofs.lemmas.Bool.{cases_Bool}
+use Rattle.std.{proofs.{Common.{◌≡◌, ◌≢◌, ◌+◌, ◌<◌, ◌≤◌, ℕ, suc, Bool, true, false, List, Option, Some, IfSome, length, slice_index, refl, sym, ap, subst, subst₂, ◌∙◌, inl, inr, arith, add-zero, get_or-drop}, lemmas.Bool.cases_Bool}, specs.Prelude.{◌==◌, if◌then◌else◌}}
 use Rattle.sqlite_format.specs.Bytes.{u32_at}
-use Rattle.sqlite_wal.specs.Format.{content, page_number}
-use Rattle.sqlite_wal.specs.Recovery.{Image, Replays, file_page, frame, frame_at, page_after}
-use Rattle.sqlite_wal.proofs.PartLemmas.{frames_len-le, slice_index-part}
-use Rattle.sqlite_wal.proofs.RecoveryLemmas.{committed_within, replays_once}
+use Rattle.sqlite_wal.{specs.{Format.{content, page_number}, Recovery.{Image, Replays, file_page, frame, frame_at, page_after}}, proofs.{PartLemmas.{frames_len-le, slice_index-part}, RecoveryLemmas.{committed_within, replays_once}}}
 use Rattle.desk_database.specs.{declared.log_fit.LogFit.{LogFit, TheVariants.{Begun, Fits, Other}}, Log.{FitsAs, FitsLog, FitsMaking, HasFrames, IsLogFit, IsOfFile, IsOfMaking, IsVersionFit, IsWholeFirst, file_version, first_page_by, stored_page, version_after}}
 
 u32_same : (f g : List ℕ) (a b : ℕ)

@@ -1,10 +1,7 @@
 -- Reading the table from its first row.
 use Rattle.std.proofs.Common.{inl, inr, ◌≡◌, ◌+◌, ℕ, suc, List, [], ◌∷◌, ◌++◌, length, Bool, true, false, Some, sym, ap, ◌∙◌, refl, arith}
-use Rattle.sqlite_value.specs.Order.{Row}
-use Rattle.sqlite_value.specs.declared.keys.Order.{Order}
-use Rattle.sqlite_trees.specs.Tree.{Trees, from_key, sought}
-use Rattle.sqlite_trees.specs.declared.store.Direction.TheVariants.{Forward}
-use Rattle.sqlite_trees.specs.View.{View, Advances, IsQuiet, with_cursor}
+use Rattle.sqlite_value.specs.{Order.Row, declared.keys.Order.Order}
+use Rattle.sqlite_trees.specs.{Tree.{Trees, from_key, sought}, declared.store.Direction.TheVariants.Forward, View.{View, Advances, IsQuiet, with_cursor}}
 use Rattle.desk_memory.specs.Entry.{Entry}
 use Rattle.desk_database.specs.{TableOpening.Reads, Rows.{row_of, rows_from}}
 

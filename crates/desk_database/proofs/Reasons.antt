@@ -1,8 +1,7 @@
 -- Why a store is refused, from one step to the next.
 use Rattle.std.proofs.Common.{◌≡◌, List, [], ◌∷◌, None, Some, IsTrue, refl}
 use Rattle.sqlite_value.specs.Order.{Row}
-use Rattle.sqlite_trees.specs.Tree.{Trees}
-use Rattle.sqlite_trees.specs.View.{View}
+use Rattle.sqlite_trees.specs.{Tree.Trees, View.View}
 use Rattle.desk_memory.specs.Entry.{Entry}
 use Rattle.desk_database.specs.{declared.open_fault.OpenFault.{OpenFault, TheVariants.{Memory, Failed, Foreign, Unfounded, Founded}}, TableOpening.{HasNoDesk, HasNoEntries, HasReason, IsForeign}, Rows.rows_from}
 

@@ -1,19 +1,10 @@
 -- From one step of an open or a making to the next.
-use Rattle.std.proofs.Common.{◌≡◌, ◌≤◌, Bool, false, [], IsTrue, refl, sym, subst, ◌∙◌, true≢false, arith}
-use Rattle.std.specs.Prelude.{◌↔◌}
-use Rattle.sqlite_disk.specs.declared.Disk.{Ghosts}
-use Rattle.sqlite_disk.specs.declared.Files.{Files}
-use Rattle.sqlite_wal.specs.Reads.{AreClean, OnlyReads}
-use Rattle.sqlite_wal.specs.Files.{outcomes}
-use Rattle.sqlite_wal.specs.Recovery.{Image}
+use Rattle.std.{proofs.Common.{◌≡◌, ◌≤◌, Bool, false, [], IsTrue, refl, sym, subst, ◌∙◌, true≢false, arith}, specs.Prelude.◌↔◌}
+use Rattle.sqlite_disk.specs.declared.{Disk.Ghosts, Files.Files}
+use Rattle.sqlite_wal.specs.{Reads.{AreClean, OnlyReads}, Files.outcomes, Recovery.Image}
 use Rattle.sqlite_pool.specs.Opening.{IsBlankFile}
-use Rattle.sqlite_store.specs.declared.error.OpenError.{OpenError}
-use Rattle.sqlite_store.specs.declared.store.FileStore.{FileStore}
-use Rattle.sqlite_store.specs.declared.store.open.Unopened.{Unopened}
-use Rattle.sqlite_store.specs.FileStore.{view}
-use Rattle.sqlite_store.specs.Unopened.{files_of, image, state_of, StopsCreating}
-use Rattle.desk_database.specs.{Begun.{GivesStore, IsBegun, IsStoreOver, Refuses}, Held.{HoldsNothing, IsKept, IsSpared, LacksObjects, MayBeMemory}, Opening.{FailsToOpen, Finds, faults_of, image_of}, Fault.fault_of_store, Log.CanReplay, declared.memory_file_fault.MemoryFileFault.{MemoryFileFault, TheVariants.Foreign}, MemoryTables.page_size}
-use Rattle.desk_database.proofs.{CatalogLemmas.{can_be_made, finds_through, kept_through, lacks_objects}, FailLemmas.{fails_behind, from_store, wanted_more}, FilesLemmas.{counts_on, now_clean, old_clean, same_image, spared_by_files}, HeldLemmas.{opens_spare, spared_is_kept}}
+use Rattle.sqlite_store.specs.{declared.{error.OpenError.OpenError, store.{FileStore.FileStore, open.Unopened.Unopened}}, FileStore.view, Unopened.{files_of, image, state_of, StopsCreating}}
+use Rattle.desk_database.{specs.{Begun.{GivesStore, IsBegun, IsStoreOver, Refuses}, Held.{HoldsNothing, IsKept, IsSpared, LacksObjects, MayBeMemory}, Opening.{FailsToOpen, Finds, faults_of, image_of}, Fault.fault_of_store, Log.CanReplay, declared.memory_file_fault.MemoryFileFault.{MemoryFileFault, TheVariants.Foreign}, MemoryTables.page_size}, proofs.{CatalogLemmas.{can_be_made, finds_through, kept_through, lacks_objects}, FailLemmas.{fails_behind, from_store, wanted_more}, FilesLemmas.{counts_on, now_clean, old_clean, same_image, spared_by_files}, HeldLemmas.{opens_spare, spared_is_kept}}}
 
 module _ {D : Type 0} {g : Ghosts D} where
   pub refused_as : (K : Type 0 → Image → Image → Type 0) (P Q : Type 0) (files : Unopened D g)

@@ -1,15 +1,8 @@
 -- The two tables can be listed and made.
-use Rattle.std.proofs.Common.{◌≡◌, ℕ, true, refl, arith}
-use Rattle.std.proofs.lemmas.List.Elements.{All-from_recursion}
-use Rattle.std.proofs.lemmas.Nat.Bits.{bit_at-zero}
-use Rattle.std.specs.Float.{NotNan}
-use Rattle.sqlite_value.specs.declared.value.Value.{Value}
-use Rattle.sqlite_value.specs.Order.{number, value_cmp}
-use Rattle.sqlite_trees.specs.View.{IsStorable}
-use Rattle.sqlite_trees.specs.Sound.{fits_kind, begins, is_free_name, same_name, may_follow}
-use Rattle.sqlite_store.specs.declared.catalog.Wanted.{Wanted}
-use Rattle.sqlite_store.specs.Catalog.{describes, is_plain}
-use Rattle.sqlite_store.specs.Build.{CanBuild, listing, are_listable}
+use Rattle.std.{proofs.{Common.{◌≡◌, ℕ, true, refl, arith}, lemmas.{List.Elements.All-from_recursion, Nat.Bits.bit_at-zero}}, specs.Float.NotNan}
+use Rattle.sqlite_value.specs.{declared.value.Value.Value, Order.{number, value_cmp}}
+use Rattle.sqlite_trees.specs.{View.IsStorable, Sound.{fits_kind, begins, is_free_name, same_name, may_follow}}
+use Rattle.sqlite_store.specs.{declared.catalog.Wanted.Wanted, Catalog.{describes, is_plain}, Build.{CanBuild, listing, are_listable}}
 use Rattle.desk_database.specs.MemoryTables.{desk_table, device_table, memory_schema}
 use lib.Ieee as Ieee
 

@@ -3,12 +3,10 @@ use Rattle.std.proofs.{Common.{◌≡◌, ◌≤◌, ℕ, IsTrue, refl, sym, ap,
 use Rattle.sqlite_disk.specs.{declared.Disk.Ghosts, Disk.MoreFaults}
 use Rattle.sqlite_wal.specs.Recovery.{Image}
 use Rattle.sqlite_trees.specs.{Tree.Trees, View.View, declared.store.Shape.TheVariants.Table}
-use Rattle.sqlite_store.specs.{declared.store.FileStore.FileStore, FileStore.{view, schema_of}, Db.rows_at, Listing.file_trees}
-use Rattle.sqlite_store.proofs.ListingLemmas.{named_shape}
-use Rattle.desk_database.specs.{declared.{open_fault.OpenFault.OpenFault, memory_file_fault.MemoryFileFault.MemoryFileFault}, TableOpening.{HasReason, IsForeign}, Table.{HasSameRows, HasTables, IsFounded, IsUnfounded}, MemoryTables.{memory_schema, page_size}, Fault.fault_of_table, Held.{CanBeFounded, HasEntries, HoldsUnfounded, MayBeMemory, HoldsMemory}, Log.CanReplay, Opening.{Finds, FindsRows, FailsToOpen}}
+use Rattle.sqlite_store.{specs.{declared.store.FileStore.FileStore, FileStore.{view, schema_of}, Db.rows_at, Listing.file_trees}, proofs.ListingLemmas.named_shape}
+use Rattle.desk_database.{specs.{declared.{open_fault.OpenFault.OpenFault, memory_file_fault.MemoryFileFault.MemoryFileFault}, TableOpening.{HasReason, IsForeign}, Table.{HasSameRows, HasTables, IsFounded, IsUnfounded}, MemoryTables.{memory_schema, page_size}, Fault.fault_of_table, Held.{CanBeFounded, HasEntries, HoldsUnfounded, MayBeMemory, HoldsMemory}, Log.CanReplay, Opening.{Finds, FindsRows, FailsToOpen}}, proofs.HeldLemmas.{memory_is_something, memory_lists}}
 use Rattle.sqlite_pool.specs.{File.in_use, StoredLaws.recovers_once}
 use Rattle.sqlite_pages.specs.PageMap.{PageMap}
-use Rattle.desk_database.proofs.HeldLemmas.{memory_is_something, memory_lists}
 use Rattle.desk_database.specs.declared.open_fault.OpenFault.TheVariants as table
 use Rattle.desk_database.specs.declared.memory_file_fault.MemoryFileFault.TheVariants as fault
 

@@ -1,14 +1,11 @@
 -- Rows of the table.
-use Rattle.std.proofs.{Common.{lt→ltb, ◌≡◌, ◌<◌, ℕ, suc, ◌+◌, pos, List, [], ◌∷◌, ◌++◌, length, Option, Some, None, true, refl, sym, ap, ◌∙◌, ◌⊎◌, inl, inr, arith, ◌^◌, ◌≤◌, Result, Ok, Err, rules}, lemmas.Bool.{and_parts, cases_Bool, ltb-true}}
-use Rattle.std.specs.{Prelude.{◌==◌, ◌&&◌}, declared.cmp.Ordering.TheVariants.{Less, Equal}, Cmp.int_cmp_is, Fmt.decimal}
-use Rattle.sqlite_value.specs.{declared.value.Value.TheVariants.Int, Order.{Row, value_cmp, column}}
-use Rattle.sqlite_value.proofs.OrderLemmas.{value_cmp-Int}
+use Rattle.std.{proofs.{Common.{lt→ltb, ◌≡◌, ◌<◌, ℕ, suc, ◌+◌, pos, List, [], ◌∷◌, ◌++◌, length, Option, Some, None, true, refl, sym, ap, ◌∙◌, ◌⊎◌, inl, inr, arith, ◌^◌, ◌≤◌, Result, Ok, Err, rules}, lemmas.Bool.{and_parts, cases_Bool, ltb-true}}, specs.{Prelude.{◌==◌, ◌&&◌}, declared.cmp.Ordering.TheVariants.{Less, Equal}, Cmp.int_cmp_is, Fmt.decimal}}
+use Rattle.sqlite_value.{specs.{declared.value.Value.TheVariants.Int, Order.{Row, value_cmp, column}}, proofs.OrderLemmas.value_cmp-Int}
 use Rattle.sqlite_trees.specs.Tree.{Trees, put_row}
 use Rattle.desk_memory.specs.{declared.answer.Answer.{Answer, TheVariants.{Stale, Bad, Spent, Requested, Judged}}, Entry.{Entry, is_replaced, with_entry, place_for, are_sized, is_short, is_short_answer, is_short_line, is_short_number, is_sized}, AnswerReader.{answer_of, answer_with, most_number, answer_text, answer_words}}
 use Rattle.desk_database.specs.{TableOpening.HasNoEntries, Rows.{line_values, number_value, row_of, rows_from, text_value}, Table.{FindsEntries, IsMemoryOf}}
 use Rattle.named_value.specs.Names.{value_named, IsPlainWord}
-use Rattle.text_scan.specs.{declared.fault_kind.FaultKind.FaultKind, FaultName.{fault_name, fault_names}, Word.words_of, WordValue.number_of}
-use Rattle.text_scan.proofs.{NamedWord.value_of-name, PlainWords.{ArePlain, decimal_of-decimal, plain-decimal, words_of-join}}
+use Rattle.text_scan.{specs.{declared.fault_kind.FaultKind.FaultKind, FaultName.{fault_name, fault_names}, Word.words_of, WordValue.number_of}, proofs.{NamedWord.value_of-name, PlainWords.{ArePlain, decimal_of-decimal, plain-decimal, words_of-join}}}
 use Rattle.line_buffer.specs.LineLaw.{ArePieces}
 use Rattle.report_text.proofs.ReadLines.{plain-verdict, verdict_told}
 use Rattle.report_verifier.specs.Verdict.{verdict_names}

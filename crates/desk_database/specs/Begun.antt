@@ -1,16 +1,8 @@
 -- What a step of an open or a making gives, and what it leaves of the files.
 use Rattle.std.specs.Prelude.{◌≡◌, ◌≤◌, [], Option, None, Some, IsTrue}
-use Rattle.sqlite_disk.specs.declared.Disk.{Ghosts}
-use Rattle.sqlite_disk.specs.declared.Files.{Files}
-use Rattle.sqlite_wal.specs.Reads.{AreClean}
-use Rattle.sqlite_wal.specs.Recovery.{Image}
-use Rattle.sqlite_wal.specs.State.{State}
-use Rattle.sqlite_store.specs.declared.error.OpenError.{OpenError}
-use Rattle.sqlite_store.specs.declared.store.FileStore.{FileStore}
-use Rattle.sqlite_store.specs.declared.store.open.Unopened.{Unopened}
-use Rattle.sqlite_store.specs.FileStore.{view, state, schema_of, is_shielded, IsReady}
-use Rattle.sqlite_store.specs.Opening.{FailsToOpen}
-use Rattle.sqlite_store.specs.Unopened.{state_of, wanted_by, image, AreUsable, IsCatalogOf, Opens, StopsCreating}
+use Rattle.sqlite_disk.specs.declared.{Disk.Ghosts, Files.Files}
+use Rattle.sqlite_wal.specs.{Reads.AreClean, Recovery.Image, State.State}
+use Rattle.sqlite_store.specs.{declared.{error.OpenError.OpenError, store.{FileStore.FileStore, open.Unopened.Unopened}}, FileStore.{view, state, schema_of, is_shielded, IsReady}, Opening.FailsToOpen, Unopened.{state_of, wanted_by, image, AreUsable, IsCatalogOf, Opens, StopsCreating}}
 use Rattle.desk_database.specs.{Held.{IsSpared, MayBeMemory}, Log.CanReplay, Opening.{Finds, faults_of, image_of}, MemoryTables.memory_schema}
 
 module _ {D : Type 0} {g : Ghosts D} where

@@ -1,7 +1,5 @@
 -- The causes that the errors of each layer stand for.
-use Rattle.std.specs.Prelude.{⊤}
-use Rattle.std.specs.IoError.{error_kind}
-use Rattle.std.specs.declared.io.ErrorKind.{ErrorKind}
+use Rattle.std.specs.{Prelude.⊤, IoError.error_kind, declared.io.ErrorKind.ErrorKind}
 use Rattle.std.specs.declared.io.ErrorKind.TheVariants as kind
 use Rattle.sqlite_std_file.specs.declared.pair.OpenError as path
 use Rattle.sqlite_std_file.specs.declared.pair.OpenError.TheVariants as opened

@@ -2,14 +2,9 @@
 use Rattle.std.specs.Prelude.{◌≡◌, ◌⊎◌, true, []}
 use Rattle.sqlite_wal.specs.Recovery.{Image}
 use Rattle.sqlite_pages.specs.PageMap.{PageMap}
-use Rattle.sqlite_pool.specs.File.{in_use}
-use Rattle.sqlite_pool.specs.Stored.{Recovers, RecoversAs, IsUnreadable}
-use Rattle.sqlite_pool.specs.Opening.{IsBlankFile}
-use Rattle.sqlite_trees.specs.Tree.{Trees}
-use Rattle.sqlite_trees.specs.declared.store.Shape.TheVariants.{Table}
-use Rattle.sqlite_store.specs.Db.{rows_at}
-use Rattle.sqlite_store.specs.Listing.{IsOurs, file_trees}
-use Rattle.sqlite_store.specs.Opening.{IsEmptyFile}
+use Rattle.sqlite_pool.specs.{File.in_use, Stored.{Recovers, RecoversAs, IsUnreadable}, Opening.IsBlankFile}
+use Rattle.sqlite_trees.specs.{Tree.Trees, declared.store.Shape.TheVariants.Table}
+use Rattle.sqlite_store.specs.{Db.rows_at, Listing.{IsOurs, file_trees}, Opening.IsEmptyFile}
 use Rattle.desk_database.specs.{Table.{IsFounded, IsUnfounded}, Log.CanReplay, MemoryTables.{page_size, memory_schema}}
 
 -- the files recover to a sound database whose objects are the two tables, with these trees

@@ -1,16 +1,10 @@
 -- What an open or a making of a memory finds, and why it fails.
 use Rattle.std.specs.Prelude.{◌≡◌, ◌⊎◌, ◌≤◌, ℕ, ◌+◌, List, IsTrue, ⊤}
-use Rattle.sqlite_disk.specs.declared.Disk.{Ghosts}
-use Rattle.sqlite_disk.specs.declared.Files.{Files}
-use Rattle.sqlite_disk.specs.Disk.{MoreFaults}
-use Rattle.sqlite_wal.specs.Recovery.{Image}
-use Rattle.sqlite_wal.specs.Reads.{AreClean, OnlyReads}
-use Rattle.sqlite_wal.specs.Files.{seen_image, outcomes, IsHuge}
+use Rattle.sqlite_disk.specs.{declared.{Disk.Ghosts, Files.Files}, Disk.MoreFaults}
+use Rattle.sqlite_wal.specs.{Recovery.Image, Reads.{AreClean, OnlyReads}, Files.{seen_image, outcomes, IsHuge}}
 use Rattle.sqlite_trees.specs.Tree.{Trees}
-use Rattle.sqlite_store.specs.FileStore.{view, is_shielded, log_frames, recovers}
+use Rattle.sqlite_store.specs.{FileStore.{view, is_shielded, log_frames, recovers}, declared.store.FileStore.FileStore, Unopened.{state_of, StopsCreating}}
 use Rattle.sqlite_store.specs.FileStore as file_store
-use Rattle.sqlite_store.specs.declared.store.FileStore.{FileStore}
-use Rattle.sqlite_store.specs.Unopened.{state_of, StopsCreating}
 use Rattle.desk_memory.specs.Entry.{Entry}
 use Rattle.desk_database.specs.{Table.{HasSameRows, IsMemoryOf, IsUnfounded}, Log.{with_next_version, CanReplay, FitsLog, FitsMaking, stored_page}, Held.{HoldsMemory, HoldsNothing, HoldsUnfounded, CanBeFounded, HasEntries, MayBeMemory}, declared.{left.Left.Left, memory_file_fault.MemoryFileFault.{MemoryFileFault, TheVariants.{Place, Missing, InUse, HotJournal, Foreign, Disk, Full, OutOfMemory, Unfounded, Founded, OtherLog}}}}
 use Rattle.desk_database.specs.declared.left.Left.TheVariants as left

@@ -1,10 +1,6 @@
 -- A store whose tree 0 is the table of devices, and tree 1 that of the desk.
 use Rattle.std.specs.Prelude.{◌≡◌, ◌≤◌, ℕ, [], false, List, Option, Some, None, IsTrue}
-use Rattle.sqlite_trees.specs.Tree.{Trees}
-use Rattle.sqlite_trees.specs.View.{View, IsClean}
-use Rattle.sqlite_trees.specs.declared.error.StoreError.{StoreError}
-use Rattle.sqlite_trees.specs.declared.error.StoreError.TheVariants.{OutOfMemory, Unstorable}
-use Rattle.sqlite_trees.specs.declared.store.Shape.TheVariants.{Table}
+use Rattle.sqlite_trees.specs.{Tree.Trees, View.{View, IsClean}, declared.{error.StoreError.{StoreError, TheVariants.{OutOfMemory, Unstorable}}, store.Shape.TheVariants.Table}}
 use Rattle.desk_memory.specs.{declared.memory_fault.MemoryFault.{MemoryFault, TheVariants.{Memory, Failed}}, Entry.{Entry, are_sized}}
 use Rattle.desk_database.specs.Rows.{desk_rows, rows_from}
 

@@ -1,10 +1,7 @@
 -- How the tables are read when a store is opened, what an open writes, and why a store is refused.
 use Rattle.std.specs.Prelude.{◌≡◌, ◌≤◌, ◌⊎◌, ℕ, [], false, List, Option, Some, None, IsTrue, ⊤}
 use Rattle.sqlite_value.specs.Order.{Row}
-use Rattle.sqlite_trees.specs.Tree.{Trees}
-use Rattle.sqlite_trees.specs.View.{IsClean, View, doubt}
-use Rattle.sqlite_trees.specs.declared.error.StoreError.{StoreError}
-use Rattle.sqlite_trees.specs.declared.error.StoreError.TheVariants.{OutOfMemory, Unstorable}
+use Rattle.sqlite_trees.specs.{Tree.Trees, View.{IsClean, View, doubt}, declared.error.StoreError.{StoreError, TheVariants.{OutOfMemory, Unstorable}}}
 use Rattle.desk_memory.specs.Entry.{Entry, are_sized}
 use Rattle.desk_database.specs.{declared.open_fault.OpenFault.{OpenFault, TheVariants.{Memory, Failed, Foreign, Unfounded, Founded}}, Rows.{desk_rows, rows_from}, Table.{HasSameRows, IsFounded, IsUnfounded}}
 

@@ -1,7 +1,6 @@
 ghost use Rattle.std.specs.Prelude.{◌≡◌, ◌⊎◌, ◌≤◌, false, IfErr, OnOk};
 ghost use Rattle.sqlite_disk.specs.Disk.{MoreFaults};
-ghost use Rattle.sqlite_trees.specs.Tree.{Trees};
-ghost use Rattle.sqlite_trees.specs.View.{HasCause, IsClean, doubt};
+ghost use Rattle.sqlite_trees.specs.{Tree.Trees, View.{HasCause, IsClean, doubt}};
 ghost use Rattle.desk_database.specs.{TableOpening.{IsCommitted, KeepsRows}, Log.{with_next_version, first_version, with_first_version}};
 
 use crate::logged::Logged;

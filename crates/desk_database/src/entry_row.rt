@@ -1,5 +1,4 @@
-ghost use Rattle.std.specs.Prelude.{◌≡◌, ◌++◌, IfOk, OnOk};
-ghost use Rattle.std.specs.Option.{option_map};
+ghost use Rattle.std.specs.{Prelude.{◌≡◌, ◌++◌, IfOk, OnOk}, Option.option_map};
 ghost use Rattle.sqlite_value.specs.Value.{owned};
 ghost use Rattle.desk_database.specs.Rows.{desk_row, line_values, number_value, row_of, text_value};
 

@@ -1,5 +1,4 @@
-ghost use Rattle.std.specs.Prelude.{◌≡◌};
-ghost use Rattle.std.specs.IoError.{error_kind};
+ghost use Rattle.std.specs.{Prelude.◌≡◌, IoError.error_kind};
 ghost use Rattle.desk_database.specs.Fault.{fault_of_kind, fault_of_path, fault_of_probe, fault_of_store, fault_of_table};
 
 use crate::memory_file_fault::MemoryFileFault;

@@ -1,12 +1,7 @@
 ghost use Rattle.std.specs.Prelude.{◌≡◌, ◌==◌, ◌↔◌, ◌⊎◌, ◌+◌, ◌<◌, ◌≤◌, if◌then◌else◌, ℕ, List, Some, IfErr, IfOk, IfSome, IsTrue, OnOk, length};
 ghost use Rattle.sqlite_disk.specs.Disk.{CountsFaultIf};
 ghost use Rattle.sqlite_format.specs.Bytes.{u32_at};
-ghost use Rattle.sqlite_wal.specs.Files.{seen_image};
-ghost use Rattle.sqlite_wal.specs.Opening.{RefusesLog};
-ghost use Rattle.sqlite_wal.specs.Outcome.{HasCause};
-ghost use Rattle.sqlite_wal.specs.PageSize.{bytes_of};
-ghost use Rattle.sqlite_wal.specs.Reads.{AreClean, IsClean, OnlyReads};
-ghost use Rattle.sqlite_wal.specs.Recovery.{frame_at, page_after};
+ghost use Rattle.sqlite_wal.specs.{Files.seen_image, Opening.RefusesLog, Outcome.HasCause, PageSize.bytes_of, Reads.{AreClean, IsClean, OnlyReads}, Recovery.{frame_at, page_after}};
 ghost use Rattle.desk_database.specs.{Log.{CanReplay, HasFrames, IsLogFit, IsVersionFit, first_page_by, stored_page}, Opening.{OnlyLooks, faults_of, image_of}};
 
 use crate::first_page::{FirstPage, PAGE, VERSION_AT, read_first_page};

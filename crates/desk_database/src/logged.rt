@@ -7,9 +7,7 @@ use sqlite_trees::store::{Alter, Store};
 pub trait Logged: Alter {
     ghost use Rattle.std.specs.Prelude.{◌≡◌, ◌⊎◌, ◌≤◌, IfErr, OnOk};
     ghost use Rattle.sqlite_disk.specs.Disk.{MoreFaults};
-    ghost use Rattle.sqlite_trees.specs.Objects.{with_version};
-    ghost use Rattle.sqlite_trees.specs.Tree.{Trees};
-    ghost use Rattle.sqlite_trees.specs.View.{HasCause, IsClean, IsQuiet, doubt};
+    ghost use Rattle.sqlite_trees.specs.{Objects.with_version, Tree.Trees, View.{HasCause, IsClean, IsQuiet, doubt}};
     ghost use Rattle.desk_database.specs.TableOpening.{IsCommitted};
 
     /// The log has no page.

@@ -1,11 +1,7 @@
 ghost use Rattle.std.specs.Prelude.{◌≡◌, ◌≤◌, ◌↔◌, true, IsTrue, IfOk, IfErr, OnOk};
-ghost use Rattle.sqlite_wal.specs.PageSize.{bytes_of};
-ghost use Rattle.sqlite_wal.specs.Files.{outcomes, IsHuge};
-ghost use Rattle.sqlite_wal.specs.Reads.{AreClean, OnlyReads};
-ghost use Rattle.sqlite_pool.specs.Stored.{used_size};
-ghost use Rattle.sqlite_pool.specs.Opening.{IsBlankFile};
-ghost use Rattle.sqlite_store.specs.FileStore.{view};
-ghost use Rattle.sqlite_store.specs.Unopened.{state_of, files_of, wanted_by, image, AreUsable};
+ghost use Rattle.sqlite_wal.specs.{PageSize.bytes_of, Files.{outcomes, IsHuge}, Reads.{AreClean, OnlyReads}};
+ghost use Rattle.sqlite_pool.specs.{Stored.used_size, Opening.IsBlankFile};
+ghost use Rattle.sqlite_store.specs.{FileStore.view, Unopened.{state_of, files_of, wanted_by, image, AreUsable}};
 ghost use Rattle.desk_database.specs.{Begun.{GivesStore, IsStoreOver, LacksTables, Refuses}, Held.{HoldsNothing, IsKept, IsSpared, MayBeMemory}, Log.{CanReplay, FitsLog, FitsMaking, IsLogFit, stored_page}, Opening.{FailsToOpen, IsRefused, OnlyLooks, WhyUnmade, WhyUnopened, WhyUnread, faults_of, image_of}, MemoryTables.{page_size, memory_schema}};
 
 use crate::layer_fault::{probe_fault, store_fault};

@@ -1,6 +1,5 @@
 ghost use Rattle.std.specs.Prelude.{◌≡◌, [], None, IsTrue, IfErr, IfOk, IfSome};
-ghost use Rattle.sqlite_trees.specs.Tree.{Trees};
-ghost use Rattle.sqlite_trees.specs.View.{IsClean};
+ghost use Rattle.sqlite_trees.specs.{Tree.Trees, View.IsClean};
 ghost use Rattle.sqlite_store.specs.FileStore.{log_frames, recovers, view};
 ghost use Rattle.desk_database.specs.{Fault.IsOfPath, Held.{IsKept, IsSpared}, Opening.{FailsAs, IsCleanLeft, IsMadeOver, IsOpenOver, IsRefused, Leaves, WhyUnmade, WhyUnopened, image_of}};
 

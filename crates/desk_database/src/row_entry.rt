@@ -1,8 +1,5 @@
-ghost use Rattle.std.specs.Prelude.{◌≡◌, ◌↔◌, ◌∷◌, [], ℕ, List, Option, pos, IfNone, IfOk, IfSome, IsTrue, length};
-ghost use Rattle.std.specs.Option.{option_map};
-ghost use Rattle.sqlite_value.specs.declared.value.Value.TheVariants.{Blob, Int, Null, Text};
-ghost use Rattle.sqlite_value.specs.Order.{column};
-ghost use Rattle.sqlite_value.specs.Value.{owned};
+ghost use Rattle.std.specs.{Prelude.{◌≡◌, ◌↔◌, ◌∷◌, [], ℕ, List, Option, pos, IfNone, IfOk, IfSome, IsTrue, length}, Option.option_map};
+ghost use Rattle.sqlite_value.specs.{declared.value.Value.TheVariants.{Blob, Int, Null, Text}, Order.column, Value.owned};
 ghost use Rattle.desk_memory.specs.{declared.{answer.Answer.Answer as Said, device_state.DeviceState.DeviceState as State}, Entry.{Entry as EntryFields, Home as EntryHome, home_fields, is_short, is_short_line, is_short_number, is_sized}};
 ghost use Rattle.desk_database.specs.Rows.{desk_row, line_values, number_value, row_of, text_value};
 

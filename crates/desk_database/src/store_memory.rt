@@ -1,7 +1,6 @@
 ghost use Rattle.std.specs.Prelude.{◌≡◌, ◌↔◌, [], IfErr, IfOk, IsTrue, OnOk};
 ghost use Rattle.sqlite_disk.specs.Disk.{MoreFaults};
-ghost use Rattle.sqlite_trees.specs.Tree.{Trees};
-ghost use Rattle.sqlite_trees.specs.View.{IsClean, IsQuiet};
+ghost use Rattle.sqlite_trees.specs.{Tree.Trees, View.{IsClean, IsQuiet}};
 ghost use Rattle.desk_memory.specs.Entry.{are_sized};
 ghost use Rattle.desk_database.specs.{TableOpening.{HasReason, IsForeign, KeepsRows, OnlyReads}, Table.{HasRows, HasTables, IsFaulty, IsFounded, IsMemoryOf, IsOpened, IsTableOf, IsUnfounded}, Log.{with_next_version, with_first_version}};
 

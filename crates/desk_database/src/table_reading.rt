@@ -1,8 +1,6 @@
-ghost use Rattle.std.specs.Prelude.{◌≡◌, [], IfErr, IfNone, IfOk, IfSome, IsSome, IsTrue, OnOk};
-ghost use Rattle.std.specs.Option.{option_map};
+ghost use Rattle.std.specs.{Prelude.{◌≡◌, [], IfErr, IfNone, IfOk, IfSome, IsSome, IsTrue, OnOk}, Option.option_map};
 ghost use Rattle.sqlite_disk.specs.Disk.{MoreFaults};
-ghost use Rattle.sqlite_trees.specs.declared.store.Shape.TheVariants.{Table};
-ghost use Rattle.sqlite_trees.specs.View.{HasCause, IsClean, IsQuiet};
+ghost use Rattle.sqlite_trees.specs.{declared.store.Shape.TheVariants.Table, View.{HasCause, IsClean, IsQuiet}};
 ghost use Rattle.desk_memory.specs.Entry.{are_sized};
 ghost use Rattle.desk_database.specs.{TableOpening.{HasNoDesk, HasNoEntries, HasReason, IsForeign, OnlyReads, Reads, rows_of_desk}, Rows.rows_from, Table.{HasTables, IsMemoryOf, IsOpened, IsUnfounded}};
 

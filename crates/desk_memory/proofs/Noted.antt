@@ -1,10 +1,5 @@
 -- What the entries say after one more.
-use Rattle.std.proofs.Common.{◌≡◌, ◌∙◌, ℕ, List, [], ◌∷◌, true, Option, Some, None, refl, sym, ap, ◌⊎◌, inl, inr, ◌&&◌, not}
-use Rattle.std.specs.Option.{is_some}
-use Rattle.std.proofs.lemmas.Option.{same_Some}
-use Rattle.std.proofs.lemmas.Bool.{and_parts, cases_Bool}
-use Rattle.std.proofs.lemmas.Slice.Eq.{bytes_eq-Decides}
-use Rattle.std.specs.Str.{bytes_eq}
+use Rattle.std.{proofs.{Common.{◌≡◌, ◌∙◌, ℕ, List, [], ◌∷◌, true, Option, Some, None, refl, sym, ap, ◌⊎◌, inl, inr, ◌&&◌, not}, lemmas.{Option.same_Some, Bool.{and_parts, cases_Bool}, Slice.Eq.bytes_eq-Decides}}, specs.{Option.is_some, Str.bytes_eq}}
 use Rattle.desk_memory.specs.{Entry.{Entry, is_replaced, last_in}, Law.{IsLastNoted, IsOwnerKept, IsOwnerNoted}}
 
 -- the last of more entries is that of the later ones, or the first

@@ -1,8 +1,5 @@
 -- The place at which one more entry changes the entries.
-use Rattle.std.proofs.Common.{◌≡◌, ◌∙◌, ◌≤◌, ◌<◌, ◌+◌, ℕ, zero, suc, List, [], ◌∷◌, ◌++◌, length, length-drop, drop, drop-cons, get_or, slice_set, false, if◌then◌else◌, refl, sym, ap, inl, inr, arith}
-use Rattle.std.specs.Option.{is_some}
-use Rattle.std.proofs.lemmas.Bool.{cases_Bool}
-use Rattle.std.specs.Str.{bytes_eq}
+use Rattle.std.{proofs.{Common.{◌≡◌, ◌∙◌, ◌≤◌, ◌<◌, ◌+◌, ℕ, zero, suc, List, [], ◌∷◌, ◌++◌, length, length-drop, drop, drop-cons, get_or, slice_set, false, if◌then◌else◌, refl, sym, ap, inl, inr, arith}, lemmas.Bool.cases_Bool}, specs.{Option.is_some, Str.bytes_eq}}
 use Rattle.desk_memory.specs.Entry.{Entry, is_replaced, last_in, with_entry, place_for}
 
 -- the place that is known from the entries so far, unless the rest has a later one

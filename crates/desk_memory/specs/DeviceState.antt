@@ -1,6 +1,5 @@
 -- What a desk knows of a device, and what an answer does to it.
-use Rattle.std.specs.Prelude.{ℕ, ◌==◌, Bool, if◌then◌else◌, nat_lt, Option, Some, None, option_map, unwrap_or}
-use Rattle.std.specs.Option.{is_none}
+use Rattle.std.specs.{Prelude.{ℕ, ◌==◌, Bool, if◌then◌else◌, nat_lt, Option, Some, None, option_map, unwrap_or}, Option.is_none}
 use Rattle.report_verifier.specs.declared.verdict.Verdict.TheVariants.{Accept}
 use Rattle.desk_memory.specs.{declared.{answer.Answer.{Answer, TheVariants.{Stale, Requested, Judged}}, device_state.DeviceState.DeviceState}}
 

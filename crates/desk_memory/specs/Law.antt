@@ -1,6 +1,5 @@
 -- What an entry changes of what the entries say, and what it keeps.
-use Rattle.std.specs.Prelude.{◌≡◌, ◌⊎◌, ℕ, List, None, Some, if◌then◌else◌}
-use Rattle.std.specs.Str.{bytes_eq}
+use Rattle.std.specs.{Prelude.{◌≡◌, ◌⊎◌, ℕ, List, None, Some, if◌then◌else◌}, Str.bytes_eq}
 use Rattle.desk_memory.specs.Entry.{Entry, last_in, owner_in, with_entry}
 
 -- it is the last of its device, and each other device has the last that it had

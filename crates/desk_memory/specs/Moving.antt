@@ -1,9 +1,6 @@
 -- How a device moves from the memory of one desk into that of another: by lines, which the one
 -- prints and the other adopts.
-use Rattle.std.specs.Prelude.{ℕ, ◌+◌, ◌==◌, ◌||◌, ◌&&◌, Bool, true, false, List, [], ◌∷◌, if◌then◌else◌, map, nat_lt, not, Option, Some, None}
-use Rattle.std.specs.List.{filter}
-use Rattle.std.specs.Option.{is_none}
-use Rattle.std.specs.Str.{bytes_eq}
+use Rattle.std.specs.{Prelude.{ℕ, ◌+◌, ◌==◌, ◌||◌, ◌&&◌, Bool, true, false, List, [], ◌∷◌, if◌then◌else◌, map, nat_lt, not, Option, Some, None}, List.filter, Option.is_none, Str.bytes_eq}
 use Rattle.text_scan.specs.{declared.fault_kind.FaultKind.{FaultKind, TheVariants.{Order, Place, Twice}}}
 use Rattle.desk_memory.specs.Entry.{Entry, Home, home_of, last_in, owner_in, with_entries, with_entry}
 

@@ -1,15 +1,10 @@
 -- A round and a dump put the same of a play without its key.
-use Rattle.std.proofs.Common.{◌≡◌, ◌∙◌, ◌+◌, ◌++◌, ◌∷◌, [], ℕ, List, Option, Some, None, ap, sym, refl, length, lit≤}
-use Rattle.std.specs.Prelude.{if◌then◌else◌, map, option_map}
-use Rattle.std.specs.List.{concat}
-use Rattle.std.proofs.lemmas.List.{append_cancel_left}
-use Rattle.device_types.specs.{Address.{Bytes, Contents}, Bounds.are_valid, Map.metadata_region, Report.ReportFields, declared.{bounds.Bounds.Bounds, event.Event.Event}}
-use Rattle.device_types.proofs.ValidRange.{are_valid-ranges}
+use Rattle.std.{proofs.{Common.{◌≡◌, ◌∙◌, ◌+◌, ◌++◌, ◌∷◌, [], ℕ, List, Option, Some, None, ap, sym, refl, length, lit≤}, lemmas.List.append_cancel_left}, specs.{Prelude.{if◌then◌else◌, map, option_map}, List.concat}}
+use Rattle.device_types.{specs.{Address.{Bytes, Contents}, Bounds.are_valid, Map.metadata_region, Report.ReportFields, declared.{bounds.Bounds.Bounds, event.Event.Event}}, proofs.ValidRange.are_valid-ranges}
 use Rattle.part_definitions.specs.{Memory.is_image_place, Metadata.bounds_in, Region.{bounded_bytes, bytes_between, metadata_bytes, output_bytes, rest_bytes}}
 use Rattle.hex_loader.specs.HexText.{hex_text}
 use Rattle.device_trace.specs.{Blank.SameOutside, Logs.Logs, Trace.{Play, byte_after, logs_after, released_words}, Start.Start, Text.{end_line_after, last_report, lines_of, play_text, report_in, lines_of_step}}
-use Rattle.key_isolation.specs.Keyless.{keyless}
-use Rattle.key_isolation.proofs.{Bytes.same_if, Hiding.open_start, Induction.{play_hides, releases_before}, Numbers.bounds_in-outside, OpenRecords.image_place-open, TextBlank.{end_line_after-hide, lines_of-hide, play_text-hide, ram_bytes, report_where-hide, valid_bytes}, TwoKeys.byte-hide}
+use Rattle.key_isolation.{specs.Keyless.keyless, proofs.{Bytes.same_if, Hiding.open_start, Induction.{play_hides, releases_before}, Numbers.bounds_in-outside, OpenRecords.image_place-open, TextBlank.{end_line_after-hide, lines_of-hide, play_text-hide, ram_bytes, report_where-hide, valid_bytes}, TwoKeys.byte-hide}}
 use Rattle.report_verifier.specs.{Comparison.{expected_bytes, expected_key, own_bytes}, Judge.{Judge, verdict_at}, Policy.expect_at, declared.{verdict.Verdict.Verdict, expect.Expect.Expect}}
 use Rattle.device_play.specs.Accounts.{end_line_of, memory_after}
 use Rattle.device_cli.specs.{Judgement.{Remark, pair_shown, pair_with_one_mac, remark_on}, KeylessText.HasKeylessTexts, RoundText.{Piece, piece_of_step, piece_text, reports_in, round_lines, round_pieces, round_text, with_last}, Unanswered.unanswered_if, Verdicts.{is_accept, verdicts}}

@@ -1,22 +1,14 @@
 -- What a row puts is put of a lawful play.
-use Rattle.std.proofs.Common.{◌≡◌, ◌<◌, ℕ, Bool, true, false, List, Option, Some, Result, Ok, Err, refl, length, subst, unwrap_or, arith}
-use Rattle.std.specs.Prelude.{if◌then◌else◌, nat_lt}
-use Rattle.std.proofs.lemmas.List.Elements.{All-from_get_or}
-use Rattle.std.proofs.lemmas.List.FromFn.{get_or-range_with_len}
+use Rattle.std.{proofs.{Common.{◌≡◌, ◌<◌, ℕ, Bool, true, false, List, Option, Some, Result, Ok, Err, refl, length, subst, unwrap_or, arith}, lemmas.List.{Elements.All-from_get_or, FromFn.get_or-range_with_len}}, specs.Prelude.{if◌then◌else◌, nat_lt}}
 use Rattle.part_definitions.specs.TrustedFlag.{aux}
-use Rattle.text_scan.specs.{Key.key_of, declared.fault_at.FaultAt.FaultAt}
-use Rattle.text_scan.proofs.HexBytes.{key_of-ok}
-use Rattle.hex_loader.specs.HexImage.{image_of}
-use Rattle.hex_loader.proofs.ImageBytes.{image_of-bytes}
+use Rattle.text_scan.{specs.{Key.key_of, declared.fault_at.FaultAt.FaultAt}, proofs.HexBytes.key_of-ok}
+use Rattle.hex_loader.{specs.HexImage.image_of, proofs.ImageBytes.image_of-bytes}
 use Rattle.hmac_core.proofs.SameBytes.{sha256-bytes}
-use Rattle.sha2.proofs.Facts256.{length-sha256}
-use Rattle.sha2.specs.Sha256.{sha256}
+use Rattle.sha2.{proofs.Facts256.length-sha256, specs.Sha256.sha256}
 use Rattle.mac_coverage.specs.Coverage.{Gives32Bytes, IsDeviceKey, IsOfBytes}
-use Rattle.report_verifier.specs.{Policy.PolicyFields, PolicyGrammar.policy_of, Validity.are_valid_for, Judge.{Judge, judge_with}}
-use Rattle.report_verifier.proofs.PolicyBounds.{policy_of-valid}
+use Rattle.report_verifier.{specs.{Policy.PolicyFields, PolicyGrammar.policy_of, Validity.are_valid_for, Judge.{Judge, judge_with}}, proofs.PolicyBounds.policy_of-valid}
 use Rattle.input_files.specs.{Row.{FileKind, RowOf, Ends, Reads, go_on, read_file, file_value}, Reading.{Files, Reaches}, FileKind.{image_kind, key_kind, policy_kind, script_kind}}
-use Rattle.device_cli.specs.{Row.{Always, DevicePlay, start_in}, Load.{load_key, load_image}, FileKind.reports_kind, Answer.{IsLawful, IsLawfulRow, IsPutLawfully}, Play.{PlayOutcome, play_with, steps_of, steps_row}, Acceptance.EachAcceptHasGrounds, Round.{RoundsHaveGrounds, round_row}, Verify.verify_row, Work.{load_play, work_row}}
-use Rattle.device_cli.proofs.Grounds.{each_accept-has_grounds}
+use Rattle.device_cli.{specs.{Row.{Always, DevicePlay, start_in}, Load.{load_key, load_image}, FileKind.reports_kind, Answer.{IsLawful, IsLawfulRow, IsPutLawfully}, Play.{PlayOutcome, play_with, steps_of, steps_row}, Acceptance.EachAcceptHasGrounds, Round.{RoundsHaveGrounds, round_row}, Verify.verify_row, Work.{load_play, work_row}}, proofs.Grounds.each_accept-has_grounds}
 use Rattle.device_play.proofs.WatchedPlay.{keeps_key_hidden, obeys_laws}
 
 -- the value of a kind of file is that of its grammar

@@ -1,6 +1,5 @@
 -- What a command puts of a play before a watcher.
-use Rattle.std.proofs.Common.{◌≡◌, ◌≤◌, ◌⊎◌, [], ℕ, Result, Ok, Err, inl, inr, refl, length, sym, arith, append-nil, append_assoc}
-use Rattle.std.specs.Prelude.{IsErrAnd}
+use Rattle.std.{proofs.Common.{◌≡◌, ◌≤◌, ◌⊎◌, [], ℕ, Result, Ok, Err, inl, inr, refl, length, sym, arith, append-nil, append_assoc}, specs.Prelude.IsErrAnd}
 use Rattle.device_types.specs.{Address.Bytes, TraceFlag.Flag}
 use Rattle.hmac_core.specs.Hash.{Hash}
 use Rattle.outside_edge.specs.Sink.{Puts, Takes}
@@ -9,8 +8,7 @@ use Rattle.device_trace.specs.{Trace.Play, Start.Start, Text.{lines_of, play_tex
 use Rattle.trace_files.specs.TraceText.{trace_text}
 use Rattle.device_core.specs.declared.live.Live.{Live}
 use Rattle.report_verifier.specs.Judge.{Judge}
-use Rattle.device_play.specs.{Account.{Account, whole_text}, Accounts.{dump_account, end_line_of, line_account, memory_after, trace_account, wave_account}, Cuts.CountsWriteFaults, Limit.most_steps, Watching.IsWatched, declared.put_fault.PutFault.{PutFault, TheVariants.{Write, Memory}}}
-use Rattle.device_play.proofs.TracedStep.{reads_back}
+use Rattle.device_play.{specs.{Account.{Account, whole_text}, Accounts.{dump_account, end_line_of, line_account, memory_after, trace_account, wave_account}, Cuts.CountsWriteFaults, Limit.most_steps, Watching.IsWatched, declared.put_fault.PutFault.{PutFault, TheVariants.{Write, Memory}}}, proofs.TracedStep.reads_back}
 use Rattle.device_cli.specs.{declared.ending.Ending.Ending, Answer.PutsOutcome, Command.{dump_text, ReadsBack, wave_text}, JudgedPlay.judge_account, Play.text_outcome, Round.judged_outcome, RoundText.round_text, Row.{DevicePlay, Outcome, start_in, IsToldBy}}
 
 pub play_text-whole : (start : Start) (play : Play)

@@ -1,8 +1,6 @@
 -- The first request that is not answered, by a tally of the verdicts, and what is put of it.
-use Rattle.std.proofs.{Common.{◌≡◌, ◌<◌, ◌≤◌, ◌+◌, ◌&&◌, ℕ, zero, suc, Bool, true, false, List, Option, Some, None, Result, Ok, Err, length, refl, arith, inl, inr}, lemmas.{Bool.{cases_eq, cases_lt}, List.Sums.{prefix_len-le-length, prefix_len_passes, prefix_len_stops}, Option.{slice_get-get_or, slice_get_cases, slice_get_past, slice_get_within}}}
-use Rattle.std.specs.{Prelude.{not, IsErrAnd}, List.{find, prefix_len, range_with_len, slice_get}, Option.is_none}
-use Rattle.outside_edge.specs.{Calls.Rose, Sink.{Takes, TakesPrefix}}
-use Rattle.outside_edge.proofs.SinkLemmas.{prefix_after, prefix_of_more, takes_both}
+use Rattle.std.{proofs.{Common.{◌≡◌, ◌<◌, ◌≤◌, ◌+◌, ◌&&◌, ℕ, zero, suc, Bool, true, false, List, Option, Some, None, Result, Ok, Err, length, refl, arith, inl, inr}, lemmas.{Bool.{cases_eq, cases_lt}, List.Sums.{prefix_len-le-length, prefix_len_passes, prefix_len_stops}, Option.{slice_get-get_or, slice_get_cases, slice_get_past, slice_get_within}}}, specs.{Prelude.{not, IsErrAnd}, List.{find, prefix_len, range_with_len, slice_get}, Option.is_none}}
+use Rattle.outside_edge.{specs.{Calls.Rose, Sink.{Takes, TakesPrefix}}, proofs.SinkLemmas.{prefix_after, prefix_of_more, takes_both}}
 use Rattle.report_verifier.specs.{declared.{asked.Asked.Asked, verdict.Verdict.{Verdict, TheVariants.Accept}, expect.Expect.Expect}, Policy.{PolicyFields, expect_at, expectation}}
 use Rattle.device_play.specs.declared.put_fault.PutFault.{PutFault, TheVariants.{Write, Memory}}
 use Rattle.device_trace.specs.Text.{some_line}

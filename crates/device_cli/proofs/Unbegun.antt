@@ -1,15 +1,12 @@
 -- Only a round stops behind its first byte where memory runs out.
-use Rattle.std.proofs.Common.{◌≡◌, ◌<◌, [], ◌∷◌, ℕ, Bool, true, false, List, Option, Some, None, IfSome, inl, inr, refl, arith}
-use Rattle.std.specs.Prelude.{bytes_eq, codes, option_map, if◌then◌else◌}
-use Rattle.std.specs.Result.{result_ok}
+use Rattle.std.{proofs.Common.{◌≡◌, ◌<◌, [], ◌∷◌, ℕ, Bool, true, false, List, Option, Some, None, IfSome, inl, inr, refl, arith}, specs.{Prelude.{bytes_eq, codes, option_map, if◌then◌else◌}, Result.result_ok}}
 use Rattle.text_scan.specs.Decimal.{decimal_of}
 use Rattle.input_files.specs.{FileKind.{image_kind, key_kind, policy_kind, script_kind}, Reading.Files, declared.status.Status.{Status, TheVariants.Memory}}
 use Rattle.trace_files.specs.TraceText.{trace_text}
 use Rattle.device_types.specs.Address.{Bytes}
 use Rattle.device_trace.specs.{Trace.Play, Start.Start, Text.play_text}
 use Rattle.device_play.specs.Limit.{most_steps}
-use Rattle.device_cli.specs.{Command.{asm_row_of, is_round, row_named, row_of, audit_row_of, list_row_of, wave_text, dump_text}, FileKind.{reports_kind, source_kind, trace_kind, most_seed}, Play.{steps_row, steps_row_of, text_outcome}, Request.{request_of, request_row_of, row_with}, Round.round_row_of, Row.{Always, Outcome, Row}, Answer.IsRun, Unanswered.behind_all, Verify.verify_row_with, Work.{work_row, work_row_of}}
-use Rattle.device_cli.proofs.LawfulRow.{reached-always, read-always}
+use Rattle.device_cli.{specs.{Command.{asm_row_of, is_round, row_named, row_of, audit_row_of, list_row_of, wave_text, dump_text}, FileKind.{reports_kind, source_kind, trace_kind, most_seed}, Play.{steps_row, steps_row_of, text_outcome}, Request.{request_of, request_row_of, row_with}, Round.round_row_of, Row.{Always, Outcome, Row}, Answer.IsRun, Unanswered.behind_all, Verify.verify_row_with, Work.{work_row, work_row_of}}, proofs.LawfulRow.{reached-always, read-always}}
 
 -- there is no text at which the putting of this may stop
 abbrev IsUncut : Outcome → Type 0

@@ -1,7 +1,5 @@
 -- A device that gets no memory.
-use Rattle.std.proofs.Common.{◌≡◌, Some, Result, Ok, Err}
-use Rattle.std.specs.Prelude.{IfErr}
-use Rattle.std.specs.declared.alloc.AllocError.{AllocError}
+use Rattle.std.{proofs.Common.{◌≡◌, Some, Result, Ok, Err}, specs.{Prelude.IfErr, declared.alloc.AllocError.AllocError}}
 use Rattle.device_types.specs.Address.{Bytes, Contents}
 use Rattle.device_cli.specs.Row.{IsWithoutDevice, DevicePlay, Outcome}
 

@@ -1,6 +1,5 @@
 -- The command `request`: a request for an attestation, with its token.
-use Rattle.std.specs.Prelude.{ℕ, List, [], ◌∷◌, Option, Some, None, Result, Ok}
-use Rattle.std.specs.Result.{result_ok}
+use Rattle.std.specs.{Prelude.{ℕ, List, [], ◌∷◌, Option, Some, None, Result, Ok}, Result.result_ok}
 use Rattle.sha2.specs.Sha256.{sha256}
 use Rattle.text_scan.specs.{declared.fault_kind.FaultKind.FaultKind, Decimal.decimal_of, Hexadecimal.hex_bytes_of, Reader.◌>>=◌}
 use Rattle.part_definitions.specs.Request.{request_token}

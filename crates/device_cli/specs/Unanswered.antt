@@ -1,8 +1,5 @@
 -- What the word `--all` asks for: that each request of the policy has a report that is accepted.
-use Rattle.std.specs.Prelude.{◌+◌, ◌++◌, ◌&&◌, ℕ, Bool, true, false, List, [], ◌∷◌, Option, None, bytes_eq, codes, not, length, if◌then◌else◌}
-use Rattle.std.specs.Fmt.{decimal}
-use Rattle.std.specs.List.{find, range_with_len, slice_get}
-use Rattle.std.specs.Option.{is_none, option_map_or}
+use Rattle.std.specs.{Prelude.{◌+◌, ◌++◌, ◌&&◌, ℕ, Bool, true, false, List, [], ◌∷◌, Option, None, bytes_eq, codes, not, length, if◌then◌else◌}, Fmt.decimal, List.{find, range_with_len, slice_get}, Option.{is_none, option_map_or}}
 use Rattle.device_types.specs.Address.{Bytes}
 use Rattle.printed_lines.specs.Line.{line_of}
 use Rattle.device_trace.specs.Text.{some_line}

@@ -5,8 +5,7 @@ use Rattle.device_types.specs.{declared.{bus_record.BusRecord.BusRecord, kind.Ki
 use Rattle.part_definitions.specs.{CpuRegister.Registers, Dma.dma_access, FirstRule.breaks_i1, Memory.ShownFlags}
 use Rattle.device_trace.specs.{Logs.{Logs, flags_shown, logged_bounds, with_record}, Peripherals.Peripherals, Progress.last_registers, Signals.{signals_at, signals_of, value_read}, Start.Start, Step.{dma_value_read, record_of}}
 use Rattle.trace_facts.proofs.BoundsStay.{logged_bounds-stay}
-use Rattle.device_core.specs.{Bus.{TurnStandsFor, answer_in, logs_after_step, record_performed}, Calm.{IsCalm, IsCalmRegion, ReadsCalmly, is_calm_turn}, FlagsKept.{IsQuietStep, LeavesFlags, has_flag}, Quiet.{GoesOver, Question}, declared.turn.Turn.Turn}
-use Rattle.device_core.proofs.{CalmStep.{calm-peripherals, calm-quiet, calm-unbroken, calm-writes}, FlagsShown.flags-kept, Steps.record_of-tried}
+use Rattle.device_core.{specs.{Bus.{TurnStandsFor, answer_in, logs_after_step, record_performed}, Calm.{IsCalm, IsCalmRegion, ReadsCalmly, is_calm_turn}, FlagsKept.{IsQuietStep, LeavesFlags, has_flag}, Quiet.{GoesOver, Question}, declared.turn.Turn.Turn}, proofs.{CalmStep.{calm-peripherals, calm-quiet, calm-unbroken, calm-writes}, FlagsShown.flags-kept, Steps.record_of-tried}}
 
 four-parts : (first second third last : Bool)
     → (first && second && third && last) ≡ true

@@ -1,14 +1,12 @@
 -- A processor that runs, after a calm step.
-use Rattle.std.proofs.Common.{◌≡◌, ◌∙◌, ◌+◌, ℕ, true, false, Some, None, inl, inr, refl, sym, subst}
+use Rattle.std.proofs.{Common.{◌≡◌, ◌∙◌, ◌+◌, ℕ, true, false, Some, None, inl, inr, refl, sym, subst}, lemmas.Bool.and_right}
 use Rattle.device_types.specs.{declared.{access.Access.TheVariants.Fetch, kind.Kind.TheVariants.Cpu, region.Region.Region}, Address.even, TraceFlag.Flag}
 use Rattle.part_definitions.specs.{CpuRegister.{Registers, pc_of}, CpuState.{CpuState, Boundary, Executing, Entering, cpu_after, is_at_boundary}, FirstRule.breaks_i1, NextAccess.is_illegal}
 use Rattle.hmac_core.specs.Hash.{Hash}
 use Rattle.msp_exec.specs.Course.{CpuStandsFor}
 use Rattle.swatt_rom.specs.{RomCall.NoCall, Rom.RomStandsFor}
 use Rattle.device_trace.specs.{Progress.{level_after, Progress, Held, InCall, Runs, fetches_opcode, last_registers}, Logs.{Logs, step_progress}, Trace.{Play, logs_after}, Signals.{proposed_access, signals_at, signals_of, step_kind, value_read}, Start.Start, Step.record_of}
-use Rattle.device_core.specs.{Bus.{BusStandsFor, answer_in, logs_after_step}, Calm.{IsCalmRegion, ReadsCalmly}, Machine.{EndsAt, IsAtBoundary, StandsAfter, WritesBy, cpu_of}, Quiet.{GoesOver, IsOpen, Question}, Silence.with_idle, declared.{machine.Machine.Machine, stage.Stage.TheVariants.Running}}
-use Rattle.device_core.proofs.{Calls.ended, CalmRegion.{calm-after, calm-answer, calm-over}, Decisions.{decision-none, other-decision}, Idle.{idle-logs, idle-more}, Levels.level-step, NextProgress.progress-performed, Turns.next-runs}
-use Rattle.std.proofs.lemmas.Bool.{and_right}
+use Rattle.device_core.{specs.{Bus.{BusStandsFor, answer_in, logs_after_step}, Calm.{IsCalmRegion, ReadsCalmly}, Machine.{EndsAt, IsAtBoundary, StandsAfter, WritesBy, cpu_of}, Quiet.{GoesOver, IsOpen, Question}, Silence.with_idle, declared.{machine.Machine.Machine, stage.Stage.TheVariants.Running}}, proofs.{Calls.ended, CalmRegion.{calm-after, calm-answer, calm-over}, Decisions.{decision-none, other-decision}, Idle.{idle-logs, idle-more}, Levels.level-step, NextProgress.progress-performed, Turns.next-runs}}
 
 signals-cpu : (start : Start) (logs : Logs) → (signals_of start logs false).kind ≡ step_kind logs
 unfolding signals_at

@@ -1,9 +1,5 @@
 -- What a calm step does not do.
-use Rattle.std.proofs.Common.{◌≡◌, ◌∙◌, ◌+◌, ◌==◌, ◌&&◌, ◌||◌, ℕ, Bool, true, false, not, List, [], ◌∷◌, ◌++◌, Option, None, Some, refl, sym, ap, arith}
-use Rattle.std.specs.Prelude.{nat_le, nat_lt, option_to_list}
-use Rattle.std.specs.List.{list_any}
-use Rattle.std.proofs.lemmas.Bool.{and_right}
-use Rattle.std.proofs.lemmas.Bool.Decides.{nat_tests}
+use Rattle.std.{proofs.{Common.{◌≡◌, ◌∙◌, ◌+◌, ◌==◌, ◌&&◌, ◌||◌, ℕ, Bool, true, false, not, List, [], ◌∷◌, ◌++◌, Option, None, Some, refl, sym, ap, arith}, lemmas.Bool.{and_right, Decides.nat_tests}}, specs.{Prelude.{nat_le, nat_lt, option_to_list}, List.list_any}}
 use Rattle.word_arith.specs.{declared.size.Size.{Size, TheVariants.{Byte, Word}}}
 use Rattle.device_types.specs.{declared.{access.Access.{Access, TheVariants.{Fetch, Read, Write}}, bounds.Bounds.Bounds, bus_record.BusRecord.BusRecord, kind.Kind.TheVariants.Cpu, region.Region.Region, signals.Signals.Signals}, Access.{some_writes, without_number}, Bounds.{executable_region, output_region}, ExecFlag.{fetches_outside, ran_at, ran_inside, writes_to}, Map.{is_within, key_region, lies_in, metadata_region, ram_region, rom_region, stack_region, timer_region, serial_region, dma_region, touches, some_touches, ROM_EXIT}, TraceFlag.{IsRecordOf, is_quiet}}
 use Rattle.part_definitions.specs.{CpuRegister.Registers, CpuState.{Boundary, Executing, Entering}, FirstRule.{first_rule, breaks_i1}, MonitorRule.{atomicity_rule, key_rule, in_rom, leaves_stack_and_mac, was_inside}, Dma.DmaEvent, Serial.{SerialEvent, byte_sent}, Timer.{TimerEvent, Tick}}

@@ -1,14 +1,12 @@
 -- The decision of the call that a step finishes.
-use Rattle.std.proofs.Common.{◌≡◌, ◌∙◌, ◌&&◌, ◌==◌, ◌⊎◌, inl, inr, ℕ, Bool, true, false, List, [], ◌∷◌, Option, None, Some, is_none, is_some, if◌then◌else◌, refl, sym, ap}
-use Rattle.std.proofs.lemmas.Bool.{false≢true}
+use Rattle.std.proofs.{Common.{◌≡◌, ◌∙◌, ◌&&◌, ◌==◌, ◌⊎◌, inl, inr, ℕ, Bool, true, false, List, [], ◌∷◌, Option, None, Some, is_none, is_some, if◌then◌else◌, refl, sym, ap}, lemmas.Bool.false≢true}
 use Rattle.msp_decode.proofs.IllegalLemmas.{middle_false}
 use Rattle.device_types.specs.{declared.{bus_record.BusRecord.BusRecord, event.Event.Event, kind.Kind.{Kind, TheVariants.{Boot, Cpu, Idle, Irq, Rom}}, rule.Rule.Rule}, Kind.is_rom, Map.ROM_EXIT, ExecFlag.last_pc}
 use Rattle.part_definitions.specs.{Attestation.{CallItem, call_item, decision_read, is_return, item_pc}, FirstRule.first_rule, CpuRegister.Registers}
 use Rattle.word_arith.specs.Number.{Word16}
 use Rattle.device_trace.specs.{Trace.{Play, trace, last_record, logs_after}, Logs.{Logs, call_decision, finishes_call, step_progress, vector_of, with_events, with_record}, Progress.{Progress, InCall, last_registers, next_pc_of}, Signals.{signals_at, signals_of, step_kind, value_read}, Start.Start, Step.{asks_reset, next_record, record_of, value_recorded}, Text.last_decision}
 use Rattle.mac_coverage.proofs.CallItems.{exit_returns}
-use Rattle.device_core.specs.{Bus.{answer_in, logs_after_step, value_unless}, Machine.DecisionStandsFor}
-use Rattle.device_core.proofs.Turns.{within-rom, words_of}
+use Rattle.device_core.{specs.{Bus.{answer_in, logs_after_step, value_unless}, Machine.DecisionStandsFor}, proofs.Turns.{within-rom, words_of}}
 
 -- a step of the ROM is one of a call
 decision-where :

@@ -3,8 +3,7 @@ use Rattle.std.proofs.Common.{◌≡◌, ◌∙◌, ◌-◌, ◌&&◌, ◌||◌,
 use Rattle.device_types.specs.{declared.rule.Rule.Rule, ExecFlag.SeenHistory, TraceFlag.Flag}
 use Rattle.hmac_core.specs.Hash.{Hash}
 use Rattle.device_trace.specs.{Trace.{Play, trace, last_record, last_signals, logs_after}, Logs.{finishes_call, flags_of, with_events, with_record}, Start.Start, Step.{next_record, next_signals}, Text.{byte_sent_in, last_byte_sent, last_decision, last_denial, last_report}, Signals.signals_of}
-use Rattle.device_core.specs.{Machine.{MachineStandsFor, PlaysAt, StandsAfter, stage_of}, declared.{last_step.LastStep.LastStep, machine.Machine.Machine, stage.Stage.Stage}, Bus.{last_seen, KeepsSignals, LastStandsFor, logs_after_step}, Silence.{is_silent, last_rule, with_idle, OfEach}}
-use Rattle.device_core.proofs.Histories.{last_report-where, last_seen-last_record, silent-Some, silent-None}
+use Rattle.device_core.{specs.{Machine.{MachineStandsFor, PlaysAt, StandsAfter, stage_of}, declared.{last_step.LastStep.LastStep, machine.Machine.Machine, stage.Stage.Stage}, Bus.{last_seen, KeepsSignals, LastStandsFor, logs_after_step}, Silence.{is_silent, last_rule, with_idle, OfEach}}, proofs.Histories.{last_report-where, last_seen-last_record, silent-Some, silent-None}}
 
 pub idle-logs :
     (start : Start) (play : Play)

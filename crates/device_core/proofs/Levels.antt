@@ -1,15 +1,12 @@
 -- How many handlers were entered and not left, after a step.
-use Rattle.std.proofs.Common.{◌≡◌, ◌∙◌, ◌⊎◌, ◌==◌, ◌++◌, ℕ, Bool, true, false, List, [], ◌∷◌, Option, None, Some, if◌then◌else◌, refl, ap, subst, inl, inr, arith}
-use Rattle.std.proofs.lemmas.Bool.{false≢true}
-use Rattle.std.proofs.lemmas.Bool.Decides.{nat_tests}
+use Rattle.std.proofs.{Common.{◌≡◌, ◌∙◌, ◌⊎◌, ◌==◌, ◌++◌, ℕ, Bool, true, false, List, [], ◌∷◌, Option, None, Some, if◌then◌else◌, refl, ap, subst, inl, inr, arith}, lemmas.Bool.{false≢true, Decides.nat_tests}}
 use Rattle.device_types.specs.{declared.kind.Kind.{Kind, TheVariants.{Cpu, Idle, Irq}}, Kind.is_irq}
 use Rattle.msp_decode.specs.Head.{head_of}
 use Rattle.part_definitions.specs.{CpuRegister.Registers, CpuState.{CpuState, Boundary, Executing, Entering, completion_or, cpu_after, is_at_boundary}, NextAccess.{Next, Asks, Completes, next_access, entry_access}}
 use Rattle.msp_exec.specs.Course.{level_begun, level_entered}
 use Rattle.word_arith.specs.Number.{Word16}
 use Rattle.device_trace.specs.{Progress.{level_after, level_from_boundary, Progress, Held, Runs, InCall, after_return, fetches_opcode, kind_of, progress_within}, Logs.{Logs, vector_taken, with_record}, Start.Start}
-use Rattle.device_core.specs.{Bus.logs_after_step, Machine.{cpu_of, level_within}}
-use Rattle.device_core.proofs.Turns.{boundary_kind-Irq}
+use Rattle.device_core.{specs.{Bus.logs_after_step, Machine.{cpu_of, level_within}}, proofs.Turns.boundary_kind-Irq}
 
 pub level-step :
     (start : Start) (logs : Logs) (reset : Bool) (after : Progress)

@@ -1,15 +1,11 @@
 -- A step has at most one line.
-use Rattle.std.proofs.Common.{◌≡◌, ◌∙◌, ◌-◌, ◌&&◌, ◌==◌, if◌then◌else◌, length, ℕ, Bool, true, false, [], ◌∷◌, Option, Some, None, is_some, refl, sym, ap}
-use Rattle.std.proofs.lemmas.Bool.{eqb-true, false≢true}
-use Rattle.std.proofs.lemmas.Bool.Decides.{nat_tests}
-use Rattle.std.proofs.Common.{arith}
+use Rattle.std.proofs.{Common.{◌≡◌, ◌∙◌, ◌-◌, ◌&&◌, ◌==◌, if◌then◌else◌, length, ℕ, Bool, true, false, [], ◌∷◌, Option, Some, None, is_some, refl, sym, ap, arith}, lemmas.Bool.{eqb-true, false≢true, Decides.nat_tests}}
 use Rattle.word_arith.specs.{declared.size.Size.{Size, TheVariants.{Byte, Word}}}
 use Rattle.device_types.specs.{declared.{access.Access.{Access, TheVariants.{Fetch, Read, Write}}, bus_record.BusRecord.BusRecord, report_view.ReportView.ReportView, rule.Rule.Rule}, Report.fields_of, Access.some_writes, Kind.is_rom, Map.ROM_EXIT, ExecFlag.last_pc}
 use Rattle.part_definitions.specs.{MonitorRule.{in_rom, is_written_by_rom, leaves_stack_and_mac}, PeripheralRegister.covers, Request.ATTESTS, Serial.SERIAL_SEND, FirstRule.first_rule}
 use Rattle.device_trace.specs.{Logs.{Logs, finishes_call, with_events}, Signals.signals_of, Trace.{Play, trace, last_record, logs_after}, Start.Start, Step.{asks_reset, next_record, record_of}, Text.{byte_sent_by, byte_sent_in, denial_where, last_byte_sent, last_decision, report_of}}
-use Rattle.device_core.specs.{Silence.{is_silent, last_rule, IsLastLine, byte_in_line, denied_in_line, report_in_line, rule_in_line}, declared.step_line.StepLine.{StepLine, TheVariants.{Denied, Report}}}
+use Rattle.device_core.{specs.{Silence.{is_silent, last_rule, IsLastLine, byte_in_line, denied_in_line, report_in_line, rule_in_line}, declared.step_line.StepLine.{StepLine, TheVariants.{Denied, Report}}}, proofs.{Decisions.{last_decision-Some, no_decision}, Histories.{last_byte_sent-Some, last_report-where, last_rule-Some, other-report}, Idle.{silent-parts, undecided-denial, undecided-report}}}
 use Rattle.trace_facts.proofs.BreaksNoRule.{first_rule-none}
-use Rattle.device_core.proofs.{Decisions.{last_decision-Some, no_decision}, Histories.{last_byte_sent-Some, last_report-where, last_rule-Some, other-report}, Idle.{silent-parts, undecided-denial, undecided-report}}
 
 -- the register that sends lies where no call writes
 sends-elsewhere :

@@ -3,8 +3,7 @@ use Rattle.std.proofs.Common.{◌≡◌, ◌∙◌, ◌||◌, ◌+◌, ◌-◌, 
 use Rattle.device_types.specs.{declared.{access.Access.{Access, TheVariants.Fetch}, bus_record.BusRecord.BusRecord, rule.Rule.Rule, signals.Signals.Signals}, ExecFlag.last_pc, Address.even}
 use Rattle.part_definitions.specs.{CpuRegister.{Registers, pc_of}, CpuState.{Boundary, cpu_access}, NextAccess.next_access, Dma.dma_access, FirstRule.first_rule}
 use Rattle.device_trace.specs.{Logs.{Logs, finishes_call, with_events, with_record}, Trace.{Play, logs_after}, Progress.{last_registers, Progress, Held, Runs, InCall}, Signals.{proposed_access, signals_at, signals_of, step_kind, value_read}, Start.Start, Step.{dma_value_read, next_record, record_from, record_of}, Text.byte_sent_in}
-use Rattle.device_core.specs.{Bus.{LastStandsFor, logs_after_step}, Quiet.{AreOpen, AreQuiet, GoesOver, IsOpen, IsQuiet, Question}, Silence.{has_line, with_idle}, declared.{last_step.LastStep.LastStep, stage.Stage.TheVariants.Running as RunningStage}, Machine.{call_of, stage_of}}
-use Rattle.device_core.proofs.Idle.{each-after, each-more, flags-unkept, idle-behind, idle-more, silent-unkept}
+use Rattle.device_core.{specs.{Bus.{LastStandsFor, logs_after_step}, Quiet.{AreOpen, AreQuiet, GoesOver, IsOpen, IsQuiet, Question}, Silence.{has_line, with_idle}, declared.{last_step.LastStep.LastStep, stage.Stage.TheVariants.Running as RunningStage}, Machine.{call_of, stage_of}}, proofs.Idle.{each-after, each-more, flags-unkept, idle-behind, idle-more, silent-unkept}}
 use Rattle.swatt_rom.specs.RomCall.{NoCall}
 
 no-rule : (sends finishes : Bool) (rule : Option Rule)

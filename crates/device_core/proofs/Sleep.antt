@@ -4,8 +4,7 @@ use Rattle.device_types.specs.{declared.{bounds.Bounds.Bounds, bus_record.BusRec
 use Rattle.part_definitions.specs.{CpuRegister.{Registers, allows_interrupts, pc_of}, CpuState.Boundary, Dma.dma_access, FirstRule.first_rule, Memory.{MemoryWrite, ShownFlags, byte_at}, Metadata.bounds_in, Interrupt.first_vector}
 use Rattle.device_trace.specs.{Blank.blank_seen, Logs.{Logs, aux_of, flags_of, flags_shown, logged_bounds, vector_of, with_record}, Peripherals.requests, Trace.{Play, last_signals, logs_after}, Progress.{Progress, Runs, boundary_kind, last_registers}, Signals.{signals_at, signals_of, step_kind}, Start.Start, Step.{record_from, record_of}}
 use Rattle.hmac_core.specs.Hash.{Hash}
-use Rattle.device_core.specs.{Bus.{BusStandsFor, KeepsSignals, LastStandsFor, logs_after_step}, FlagsKept.{LeavesFlags, MonitorsStandFor}, Machine.{DecisionStandsFor, MachineStandsFor, PlaysAt, ProgressStandsFor, stage_of}, Silence.with_idle, declared.{last_step.LastStep.LastStep, machine.Machine.Machine, stage.Stage.TheVariants.Running, bus.Bus.Bus}, Quiet.{AreOpen, AreQuiet, Question}, Sleep.{IsOfSleep, SleepsAt, Rests, Sleeps, idle_signals, logs_idle, with_idle_steps}}
-use Rattle.device_core.proofs.{FlagsShown.flags-kept, Idle.idle-logs, QuietSteps.quiet-step, Steps.record_of-tried, Turns.boundary-step}
+use Rattle.device_core.{specs.{Bus.{BusStandsFor, KeepsSignals, LastStandsFor, logs_after_step}, FlagsKept.{LeavesFlags, MonitorsStandFor}, Machine.{DecisionStandsFor, MachineStandsFor, PlaysAt, ProgressStandsFor, stage_of}, Silence.with_idle, declared.{last_step.LastStep.LastStep, machine.Machine.Machine, stage.Stage.TheVariants.Running, bus.Bus.Bus}, Quiet.{AreOpen, AreQuiet, Question}, Sleep.{IsOfSleep, SleepsAt, Rests, Sleeps, idle_signals, logs_idle, with_idle_steps}}, proofs.{FlagsShown.flags-kept, Idle.idle-logs, QuietSteps.quiet-step, Steps.record_of-tried, Turns.boundary-step}}
 
 -- what it leaves in the logs
 abbrev idle_record : Registers → BusRecord

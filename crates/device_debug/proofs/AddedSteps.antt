@@ -1,9 +1,8 @@
 -- The texts of steps that are added to a text for the console, one after the other.
 use Rattle.std.proofs.{Common.{◌≡◌, ◌≤◌, ◌<◌, ◌+◌, ◌-◌, ◌∙◌, ◌++◌, ℕ, zero, suc, List, Result, IsErr, ap, sym, arith, append_assoc, []}, lemmas.List.append-nil}
-use Rattle.debug_link.specs.{Console.{AddsText, HasAdded, console}, Writing.{PacketSink, PutsPackets}}
-use Rattle.debug_link.proofs.AddedText.{PutsPrefix, added_both, added_none, adds_failed_in, prefix_less, prefix_behind, prefix_end, text_finished, texts_failed}
+use Rattle.debug_link.{specs.{Console.{AddsText, HasAdded, console}, Writing.{PacketSink, PutsPackets}}, proofs.AddedText.{PutsPrefix, added_both, added_none, adds_failed_in, prefix_less, prefix_behind, prefix_end, text_finished, texts_failed}}
 use Rattle.debug_session.specs.{Monitor.texts_from, Sight.{StepSight, View}}
-use Rattle.outside_edge.specs.declared.sink.Sink as sink
+use Rattle.outside_edge.specs.declared.sink.Sink.{Ghosts as SinkGhosts}
 
 module _ (view : View) (text_of : StepSight → List ℕ) where
   -- the texts of a way that is cut in two
@@ -21,7 +20,7 @@ module _ (view : View) (text_of : StepSight → List ℕ) where
       ∙ sym (append_assoc (text_of (view from).next) (texts_from view text_of (suc from) one)
       (texts_from view text_of mid two))
 
-module _ {W : Type 0} (w : sink.Ghosts W) (view : View) (text_of : StepSight → List ℕ) where
+module _ {W : Type 0} (w : SinkGhosts W) (view : View) (text_of : StepSight → List ℕ) where
   -- the texts of the steps from one place to another were added, on the way to a third one
   pub record IsAddedTo (old now : PacketSink W) (rest rest_now : List ℕ) (from until place : ℕ)
       : Type 0 where
@@ -85,7 +84,7 @@ module _ {W : Type 0} (w : sink.Ghosts W) (view : View) (text_of : StepSight →
 
 -- The texts that a user asks for, as they are put.
 
-module _ {W : Type 0} (w : sink.Ghosts W) where
+module _ {W : Type 0} (w : SinkGhosts W) where
   -- a text that is what was asked for
   pub asked-put : {V E : Type 0} (old new : PacketSink W) (text asked : List ℕ)
       (result : Result V E)

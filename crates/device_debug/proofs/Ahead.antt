@@ -1,9 +1,7 @@
 -- A walk forwards stops at the first place with a cause, and sees a refusal behind it.
-use Rattle.std.proofs.{Common.{◌≡◌, ◌≤◌, ◌<◌, ◌+◌, ◌-◌, ◌∙◌, ◌⊎◌, inl, inr, ⊎_elim, ℕ, zero, suc, Bool, true, false, List, [], Option, Some, None, length, is_some, refl, ap, sym, subst, arith, ◌++◌, append_assoc}, lemmas.{Bool.{cases_Bool, cases_lt, cond-true, false≢true, lt-ltb, ltb-true}, List.append-nil}}
-use Rattle.std.specs.Prelude.{nat_lt, if◌then◌else◌}
+use Rattle.std.{proofs.{Common.{◌≡◌, ◌≤◌, ◌<◌, ◌+◌, ◌-◌, ◌∙◌, ◌⊎◌, inl, inr, ⊎_elim, ℕ, zero, suc, Bool, true, false, List, [], Option, Some, None, length, is_some, refl, ap, sym, subst, arith, ◌++◌, append_assoc}, lemmas.{Bool.{cases_Bool, cases_lt, cond-true, false≢true, lt-ltb, ltb-true}, List.append-nil}}, specs.Prelude.{nat_lt, if◌then◌else◌}}
 use Rattle.device_types.specs.declared.rule.Rule.{Rule}
-use Rattle.debug_session.specs.{Request.most_steps, declared.{command.Way.TheVariants.Ahead, stop.Stop.{Stop, TheVariants.{End, Refused}}, watch.Hit.Hit}, Stops.Stops, Cause.{Step, ahead, behind, cause, cause_here, hit_on, hits, is_plain, refusal, refusal_or, steps_over, stop_of}, Going.first_stop, Session.{refused_step, told_lines}, Sight.{Sight, View}}
-use Rattle.debug_session.proofs.Scans.{first-at, first-none}
+use Rattle.debug_session.{specs.{Request.most_steps, declared.{command.Way.TheVariants.Ahead, stop.Stop.{Stop, TheVariants.{End, Refused}}, watch.Hit.Hit}, Stops.Stops, Cause.{Step, ahead, behind, cause, cause_here, hit_on, hits, is_plain, refusal, refusal_or, steps_over, stop_of}, Going.first_stop, Session.{refused_step, told_lines}, Sight.{Sight, View}}, proofs.Scans.{first-at, first-none}}
 use Rattle.device_debug.specs.Ahead.{last_boundary, place_past, seek_ahead}
 use Rattle.debug_link.specs.Console.{console}
 

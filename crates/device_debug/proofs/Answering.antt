@@ -1,20 +1,16 @@
 -- What a debugger answers, wherever its session stands.
-use Rattle.std.proofs.{Common.{◌≡◌, ◌∙◌, ℕ, Bool, true, false, List, [], ◌∷◌, Option, Some, None, Result, Ok, Err, IsErr, refl, ap, sym, ◌++◌, ◌≤◌, arith}, lemmas.{Option.same_Some, Bool.false≢true, List.append-nil}}
-use Rattle.std.specs.Prelude.{MatchOption, codes, if◌then◌else◌, IsErrAnd}
+use Rattle.std.{proofs.{Common.{◌≡◌, ◌∙◌, ℕ, Bool, true, false, List, [], ◌∷◌, Option, Some, None, Result, Ok, Err, IsErr, refl, ap, sym, ◌++◌, ◌≤◌, arith}, lemmas.{Option.same_Some, Bool.false≢true, List.append-nil}}, specs.Prelude.{MatchOption, codes, if◌then◌else◌, IsErrAnd}}
 use Rattle.hmac_core.specs.Hash.{Hash}
-use Rattle.outside_edge.specs.Sink.{Takes, TakesPrefix}
-use Rattle.debug_link.specs.{Conversation.{Answer, HaveCome, count_of}, Packet.{packet_of, packets_of}, Writing.{Answers, PacketSink, HasPut, CountsWriteFaults}, declared.{answer_fault.AnswerFault.{AnswerFault, TheVariants.Memory}, connection.Connection.{Connection, TheVariants.{Closed, Open}}}}
+use Rattle.outside_edge.{specs.{Sink.{Takes, TakesPrefix}, declared.sink.Sink.Ghosts as SinkGhosts}, proofs.{SinkLemmas.{prefix_after, prefix_of_more}, Counts.rose_since}}
+use Rattle.debug_link.{specs.{Conversation.{Answer, HaveCome, count_of}, Packet.{packet_of, packets_of}, Writing.{Answers, PacketSink, HasPut, CountsWriteFaults}, declared.{answer_fault.AnswerFault.{AnswerFault, TheVariants.Memory}, connection.Connection.{Connection, TheVariants.{Closed, Open}}}}, proofs.{AddedText.{put_none, packets-both, put_both}, Interrupts.none-came}}
 use Rattle.debug_session.specs.{Command.command_of, declared.request.Request.{Request, TheVariants.Until}, Place.{Run, view_of}, Session.{Session, after_request, answer_of, closes, reply, says, with_stops}, Stops.Stops}
-use Rattle.debug_link.proofs.{AddedText.{put_none, packets-both, put_both}, Interrupts.none-came}
 use Rattle.debug_walk.specs.{Copies.played_run, Walk.OfWalk, declared.walk.Walk.Walk}
 use Rattle.device_debug.specs.{Going.StandsAt, Session.{DebuggerStandsFor, Gives, MayGive, RunSession, StandsInRun, in_run, run_at, run_reply}, declared.{debugger.Debugger.Debugger, run_debugger.RunDebugger.RunDebugger}}
-use Rattle.outside_edge.proofs.{SinkLemmas.{prefix_after, prefix_of_more}, Counts.rose_since}
 use Rattle.device_play.proofs.WriteCounts.{nothing-begun}
-use Rattle.outside_edge.specs.declared.sink.Sink as sink
 
 -- Answers that were put, whoever stands behind them.
 
-module _ {T S W : Type 0} (stands : T → S → Type 0) (w : sink.Ghosts W) where
+module _ {T S W : Type 0} (stands : T → S → Type 0) (w : SinkGhosts W) where
   -- all of its packets were put
   pub all-answered : (old new : PacketSink W) (answerer : T) (answer : Answer S)
       → stands answerer answer.session → HasPut w old new answer.packets
@@ -81,7 +77,7 @@ module _ {T S W : Type 0} (stands : T → S → Type 0) (w : sink.Ghosts W) wher
       (prefix_of_more w.stands old.sink new.sink (packets_of bodies) (packets_of answer.packets)
       prefix))
 
-module _ {W : Type 0} (w : sink.Ghosts W) where
+module _ {W : Type 0} (w : SinkGhosts W) where
   -- one packet was put
   pub one-put : (old new : PacketSink W) (body : List ℕ)
       → Takes w.stands old.sink new.sink (packet_of body) → new.last ≡ packet_of body
@@ -167,7 +163,7 @@ module _ {D : Type 0} (hash : Hash D) where
   no-until debugger session (Until number) other stands = absurd (other number refl)
   no-until debugger session request other stands = stands
 
-module _ {D W : Type 0} (hash : Hash D) (w : sink.Ghosts W) where
+module _ {D W : Type 0} (hash : Hash D) (w : SinkGhosts W) where
   -- one packet is put
   pub said : (old new : PacketSink W) (debugger : Debugger D) (body : List ℕ)
       → Takes w.stands old.sink new.sink (packet_of body) → new.last ≡ packet_of body

@@ -1,13 +1,10 @@
 -- A walk that stands where going back leads.
-use Rattle.std.proofs.{Common.{◌≡◌, ◌≤◌, ◌<◌, inl, ℕ, true, Option, Some, None, refl, arith, Bool, false}, lemmas.Bool.{cond-true, eq-eqb}}
+use Rattle.std.{proofs.{Common.{◌≡◌, ◌≤◌, ◌<◌, inl, ℕ, true, Option, Some, None, refl, arith, Bool, false}, lemmas.Bool.{cond-true, eq-eqb}}, specs.Prelude.{◌&&◌, ◌||◌, ◌==◌}}
 use Rattle.hmac_core.specs.Hash.{Hash}
-use Rattle.debug_session.specs.{Request.most_steps, Cause.Step, Going.{Standing, interrupted, last_stop, lies_between}, Place.{Run, view_of}, Stops.Stops, declared.stop.Stop.{Stop, TheVariants.{Begin, Interrupted}}, Sight.View}
+use Rattle.debug_session.{specs.{Request.most_steps, Cause.Step, Going.{Standing, interrupted, last_stop, lies_between}, Place.{Run, view_of}, Stops.Stops, declared.stop.Stop.{Stop, TheVariants.{Begin, Interrupted}}, Sight.View}, proofs.{Scans.last-none, Views.view-at, Between.is-between}}
 use Rattle.debug_link.specs.Conversation.{HaveCome, count_of}
-use Rattle.debug_session.proofs.{Scans.last-none, Views.view-at, Between.is-between}
 use Rattle.debug_walk.specs.{Copies.{IsAt, IsBegun}, Walk.place_of, declared.walk.Walk.Walk}
-use Rattle.device_debug.specs.{Ahead.IsLastBehind, Going.{HasArrived, StandsAt}}
-use Rattle.device_debug.proofs.{Ahead.at-boundary, Back.{NoneBehind, cause_back, found-last, found-none}}
-use Rattle.std.specs.Prelude.{◌&&◌, ◌||◌, ◌==◌}
+use Rattle.device_debug.{specs.{Ahead.IsLastBehind, Going.{HasArrived, StandsAt}}, proofs.{Ahead.at-boundary, Back.{NoneBehind, cause_back, found-last, found-none}}}
 
 -- Where an interrupt ends a way.
 

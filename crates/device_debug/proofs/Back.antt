@@ -1,12 +1,9 @@
 -- What a walk looks at of a way, in pieces, is what going back looks for.
-use Rattle.std.proofs.{Common.{◌≡◌, ◌≤◌, ◌<◌, ◌+◌, ◌-◌, ◌∙◌, ◌⊎◌, inl, inr, ⊎_elim, ℕ, suc, Bool, true, false, List, [], ◌∷◌, ◌++◌, Option, Some, None, length, refl, ap, sym, subst, arith, zero, is_some}, lemmas.Bool.{cases_lt, cond-true, cond-false, false≢true}}
-use Rattle.std.specs.{Prelude.{◌&&◌, ◌||◌, IfSome, nat_le, not}, Option.option_or}
+use Rattle.std.{proofs.{Common.{◌≡◌, ◌≤◌, ◌<◌, ◌+◌, ◌-◌, ◌∙◌, ◌⊎◌, inl, inr, ⊎_elim, ℕ, suc, Bool, true, false, List, [], ◌∷◌, ◌++◌, Option, Some, None, length, refl, ap, sym, subst, arith, zero, is_some}, lemmas.Bool.{cases_lt, cond-true, cond-false, false≢true}}, specs.{Prelude.{◌&&◌, ◌||◌, IfSome, nat_le, not}, Option.option_or}}
 use Rattle.device_types.specs.{declared.{kind.Kind.{Kind, TheVariants.Idle}, rule.Rule.Rule}, Kind.{is_boot, is_cpu, is_rom}}
 use Rattle.part_definitions.specs.CpuRegister.{pc_of}
-use Rattle.debug_session.specs.{Request.most_steps, declared.{command.Way.TheVariants.{Back, Ahead}, stop.Stop.{Stop, TheVariants.Begin}}, Stops.Stops, Watched.last_hit, Cause.{Step, ahead, begins_within, behind, boots, cause, hit_on, hits, is_plain, is_within, refusal, refusal_or, steps_over, stop_of, cause_here, is_broken_at, is_due}, Going.last_stop, Place.{Run, view_of, sight_at}, Sight.{Sight, View}}
-use Rattle.debug_session.proofs.{Scans.{last-at, last-none}, Stretches.{ahead-behind, HasBegin, has-begin}, Views.view-at}
-use Rattle.debug_walk.specs.{Passing.{IsSilent, Sleeps}, Walk.{IsStretch, TellsCause}, declared.stretch.Stretch.Stretch}
-use Rattle.debug_walk.proofs.StretchSteps.{told-refused}
+use Rattle.debug_session.{specs.{Request.most_steps, declared.{command.Way.TheVariants.{Back, Ahead}, stop.Stop.{Stop, TheVariants.Begin}}, Stops.Stops, Watched.last_hit, Cause.{Step, ahead, begins_within, behind, boots, cause, hit_on, hits, is_plain, is_within, refusal, refusal_or, steps_over, stop_of, cause_here, is_broken_at, is_due}, Going.last_stop, Place.{Run, view_of, sight_at}, Sight.{Sight, View}}, proofs.{Scans.{last-at, last-none}, Stretches.{ahead-behind, HasBegin, has-begin}, Views.view-at}}
+use Rattle.debug_walk.{specs.{Passing.{IsSilent, Sleeps}, Walk.{IsStretch, TellsCause}, declared.stretch.Stretch.Stretch}, proofs.StretchSteps.told-refused}
 use Rattle.device_debug.specs.{Ahead.{IsLastBehind, stop_with_place, seek_back}, Going.{cause_before, steps_by}}
 
 -- the last place with a cause, of those behind a place and before another one

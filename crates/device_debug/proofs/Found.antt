@@ -1,8 +1,6 @@
 -- What a look for an interrupt has found.
-use Rattle.std.proofs.Common.{◌≡◌, ◌+◌, ℕ, Bool, true, Option, arith}
-use Rattle.std.specs.Prelude.{option_map}
-use Rattle.debug_link.specs.Conversation.{HaveCome}
-use Rattle.debug_link.proofs.Interrupts.{both-came, fewer-came}
+use Rattle.std.{proofs.Common.{◌≡◌, ◌+◌, ℕ, Bool, true, Option, arith}, specs.Prelude.option_map}
+use Rattle.debug_link.{specs.Conversation.HaveCome, proofs.Interrupts.{both-came, fewer-came}}
 use Rattle.word_arith.specs.Number.{bit_of}
 
 -- whatever was found, no less than nothing came

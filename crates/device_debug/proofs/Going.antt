@@ -1,20 +1,13 @@
 -- A walk that goes on, and what it told so far.
-use Rattle.std.proofs.Common.{◌≡◌, ◌≤◌, ◌<◌, ◌+◌, ◌-◌, ◌∙◌, ◌++◌, ◌⊎◌, inl, inr, ⊎_elim, ℕ, zero, suc, Bool, true, false, List, [], ◌∷◌, Option, Some, None, Result, Ok, Err, is_some, refl, ap, sym, subst, arith, append_assoc}
-use Rattle.std.specs.Prelude.{IsErr, codes, length, if◌then◌else◌}
-use Rattle.std.proofs.lemmas.Bool.{cases_lt, cond-true, false≢true}
-use Rattle.std.proofs.lemmas.List.{append-nil}
+use Rattle.std.{proofs.{Common.{◌≡◌, ◌≤◌, ◌<◌, ◌+◌, ◌-◌, ◌∙◌, ◌++◌, ◌⊎◌, inl, inr, ⊎_elim, ℕ, zero, suc, Bool, true, false, List, [], ◌∷◌, Option, Some, None, Result, Ok, Err, is_some, refl, ap, sym, subst, arith, append_assoc}, lemmas.{Bool.{cases_lt, cond-true, false≢true}, List.append-nil}}, specs.Prelude.{IsErr, codes, length, if◌then◌else◌}}
 use Rattle.device_types.specs.declared.rule.Rule.{Rule}
 use Rattle.hmac_core.specs.Hash.{Hash}
-use Rattle.outside_edge.specs.declared.sink.Sink as sink
+use Rattle.outside_edge.specs.declared.sink.Sink.{Ghosts as SinkGhosts}
 use Rattle.printed_lines.specs.Line.{reset_line}
-use Rattle.debug_session.specs.{Request.most_steps, declared.{command.Way.TheVariants.Ahead, stop.Stop.{Stop, TheVariants.{End, Interrupted, Refused}}, watch.Hit.Hit}, Cause.{Step, behind, cause, cause_here, hit_on, is_plain, refusal_or, steps_over, stop_of}, Going.{Standing, first_stop, interrupted}, Place.{Run, sight_at, view_of}, Session.{lines_to, refused_step, told_lines, refusal_warning}, Sight.{Sight, StepSight, View}, Stops.Stops}
-use Rattle.debug_link.specs.{Console.console, Writing.{HasPut, PacketSink, PutsPackets}, declared.answer_fault.AnswerFault.{AnswerFault, TheVariants.Memory}}
-use Rattle.debug_link.proofs.AddedText.{put_both, put_none, puts_behind, puts_less}
-use Rattle.debug_session.proofs.{Scans.first-past, Views.{next-at, view-at}}
-use Rattle.debug_walk.specs.{Copies.IsAt, Passing.{ArePassed, AreSilent}, Walk.{TellsCause, Walks, place_of}, declared.walk.Walk.Walk}
-use Rattle.debug_walk.proofs.Views.{some-same}
-use Rattle.device_debug.specs.{Ahead.{both_of, last_boundary, refused_at, seek_ahead}, Going.{GoesOn, StandsAt, StopsBefore}, Telling.{GrownText, TellsStep, bodies_of}}
-use Rattle.device_debug.proofs.{Ahead.{IsClear, TellsAhead, at-boundary, cause_at, cause_by, none-at, stops-before-refusal, stops-here, stops-nowhere, tells-ahead, told_at, up-to, IsPut, IsTold, put-here, put-until, told-both, told-first, told-on, told-step}, Arrived.{arrives-there, interrupted-at}, Back.{idle-over, plain-none, exact-tells}, Refusals.puts-none}
+use Rattle.debug_session.{specs.{Request.most_steps, declared.{command.Way.TheVariants.Ahead, stop.Stop.{Stop, TheVariants.{End, Interrupted, Refused}}, watch.Hit.Hit}, Cause.{Step, behind, cause, cause_here, hit_on, is_plain, refusal_or, steps_over, stop_of}, Going.{Standing, first_stop, interrupted}, Place.{Run, sight_at, view_of}, Session.{lines_to, refused_step, told_lines, refusal_warning}, Sight.{Sight, StepSight, View}, Stops.Stops}, proofs.{Scans.first-past, Views.{next-at, view-at}}}
+use Rattle.debug_link.{specs.{Console.console, Writing.{HasPut, PacketSink, PutsPackets}, declared.answer_fault.AnswerFault.{AnswerFault, TheVariants.Memory}}, proofs.AddedText.{put_both, put_none, puts_behind, puts_less}}
+use Rattle.debug_walk.{specs.{Copies.IsAt, Passing.{ArePassed, AreSilent}, Walk.{TellsCause, Walks, place_of}, declared.walk.Walk.Walk}, proofs.Views.some-same}
+use Rattle.device_debug.{specs.{Ahead.{both_of, last_boundary, refused_at, seek_ahead}, Going.{GoesOn, StandsAt, StopsBefore}, Telling.{GrownText, TellsStep, bodies_of}}, proofs.{Ahead.{IsClear, TellsAhead, at-boundary, cause_at, cause_by, none-at, stops-before-refusal, stops-here, stops-nowhere, tells-ahead, told_at, up-to, IsPut, IsTold, put-here, put-until, told-both, told-first, told-on, told-step}, Arrived.{arrives-there, interrupted-at}, Back.{idle-over, plain-none, exact-tells}, Refusals.puts-none}}
 
 both-parts : (last : Option ℕ) (told : Option Rule) (at : ℕ) (rule : Rule)
     → both_of last told ≡ Some (at, rule) → (last ≡ Some at) × (told ≡ Some rule)
@@ -66,13 +59,13 @@ abbrev pub step_before : {D : Type 0} → Walk D → ℕ
 step_before walk = place_of walk - 1
 
 -- it went on from a place to the first stop
-abbrev pub GoesFrom : {D W : Type 0} → Hash D → sink.Ghosts W → Run → Stops → Option Step
+abbrev pub GoesFrom : {D W : Type 0} → Hash D → SinkGhosts W → Run → Stops → Option Step
     → PacketSink W → PacketSink W → Result (Walk D × Stop) AnswerFault → ℕ → Type 0
 GoesFrom hash w run stops step old new result from =
     GoesOn hash w old new run from
     (first_stop (cause (view_of run) stops (seek_ahead step)) from (most_steps - from)) result
 
-module _ {D W : Type 0} (hash : Hash D) (w : sink.Ghosts W) (run : Run) (stops : Stops)
+module _ {D W : Type 0} (hash : Hash D) (w : SinkGhosts W) (run : Run) (stops : Stops)
     (step : Option Step) (from : ℕ)
   where
     abbrev view : View

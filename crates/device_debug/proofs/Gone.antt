@@ -1,14 +1,11 @@
 -- What a debugger answers from another place, and behind lines that it told.
-use Rattle.std.proofs.Common.{◌≡◌, ◌≤◌, ◌-◌, ◌∙◌, ℕ, List, [], Option, Some, Result, Ok, Err, IsErr, refl, ap, sym, subst, arith}
-use Rattle.std.specs.Prelude.{codes}
+use Rattle.std.{proofs.Common.{◌≡◌, ◌≤◌, ◌-◌, ◌∙◌, ℕ, List, [], Option, Some, Result, Ok, Err, IsErr, refl, ap, sym, subst, arith}, specs.Prelude.codes}
 use Rattle.hmac_core.specs.Hash.{Hash}
-use Rattle.outside_edge.specs.declared.sink.Sink as sink
+use Rattle.outside_edge.specs.declared.sink.Sink.{Ghosts as SinkGhosts}
 use Rattle.debug_link.specs.{Console.console, Conversation.{HaveCome, count_of}, Writing.{Answers, PacketSink, PutsPackets}, declared.{answer_fault.AnswerFault.AnswerFault, connection.Connection.Connection}}
-use Rattle.debug_session.specs.{Request.most_steps, declared.{command.{Going.Going, Way.{Way, TheVariants.{Ahead, Back}}}, request.Request.{Request, TheVariants.Until}, stop.Stop.Stop}, Cause.{Step, cause}, Going.{Standing, first_stop, interrupted, last_stop, step_of, where_to}, Monitor.request_text, Place.{Run, sight_at, view_of}, Session.{Session, after_request, lines_to, answer_to_request, says, stands_at}, StopReply.stop_reply, Stops.Stops}
-use Rattle.debug_session.proofs.Views.{view-at}
+use Rattle.debug_session.{specs.{Request.most_steps, declared.{command.{Going.Going, Way.{Way, TheVariants.{Ahead, Back}}}, request.Request.{Request, TheVariants.Until}, stop.Stop.Stop}, Cause.{Step, cause}, Going.{Standing, first_stop, interrupted, last_stop, step_of, where_to}, Monitor.request_text, Place.{Run, sight_at, view_of}, Session.{Session, after_request, lines_to, answer_to_request, says, stands_at}, StopReply.stop_reply, Stops.Stops}, proofs.Views.view-at}
 use Rattle.debug_walk.specs.{Copies.{TrackStandsFor, played_run}, Walk.{OfWalk, Walks, place_of}, declared.{track.Track.Track, walk.Walk.Walk}}
-use Rattle.device_debug.specs.{Ahead.{seek_ahead, seek_back}, Going.{GoesOn, HasArrived, StandsAt}, Session.{DebuggerStandsFor, Gives, MayGive, run_at, view_in}, declared.debugger.Debugger.Debugger}
-use Rattle.device_debug.proofs.Answering.{answered-behind, failed-before, halted-here}
+use Rattle.device_debug.{specs.{Ahead.{seek_ahead, seek_back}, Going.{GoesOn, HasArrived, StandsAt}, Session.{DebuggerStandsFor, Gives, MayGive, run_at, view_in}, declared.debugger.Debugger.Debugger}, proofs.Answering.{answered-behind, failed-before, halted-here}}
 
 -- no request changes the place
 place-kept : (session : Session) (request : Request)
@@ -16,7 +13,7 @@ place-kept : (session : Session) (request : Request)
 place-kept session (Until number) = refl
 place-kept session request = refl
 
-module _ {D W : Type 0} (hash : Hash D) (w : sink.Ghosts W) where
+module _ {D W : Type 0} (hash : Hash D) (w : SinkGhosts W) where
   -- why it stands where it stands now
   pub stood : (old new : PacketSink W) (debugger : Debugger D) (halted : Walk D) (stop : Stop)
       (now : Standing) (session : Session) (body : List ℕ) (result : Result Connection AnswerFault)

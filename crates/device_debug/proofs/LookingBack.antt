@@ -1,15 +1,10 @@
 -- A walk that looks back at a piece of the way, from boundary to boundary.
-use Rattle.std.proofs.Common.{◌≡◌, ◌≤◌, ◌<◌, ◌+◌, ◌-◌, ◌∙◌, ◌⊎◌, inl, inr, ⊎_elim, ℕ, zero, suc, Bool, true, false, Option, None, length, refl, ap, sym, subst, arith}
-use Rattle.std.specs.Prelude.{IfSome, nat_lt, if◌then◌else◌}
-use Rattle.std.specs.Option.{option_or}
-use Rattle.std.proofs.lemmas.Bool.{cases_Bool, cases_lt, ltb-false, ltb-true}
+use Rattle.std.{proofs.{Common.{◌≡◌, ◌≤◌, ◌<◌, ◌+◌, ◌-◌, ◌∙◌, ◌⊎◌, inl, inr, ⊎_elim, ℕ, zero, suc, Bool, true, false, Option, None, length, refl, ap, sym, subst, arith}, lemmas.Bool.{cases_Bool, cases_lt, ltb-false, ltb-true}}, specs.{Prelude.{IfSome, nat_lt, if◌then◌else◌}, Option.option_or}}
 use Rattle.hmac_core.specs.Hash.{Hash}
 use Rattle.part_definitions.specs.CpuRegister.{pc_of}
-use Rattle.debug_session.specs.{Request.most_steps, Stops.Stops, declared.stop.Stop.Stop, Cause.{Step, behind, is_plain}, Place.{Run, sight_at, view_of}}
-use Rattle.debug_session.proofs.Views.{view-at}
+use Rattle.debug_session.{specs.{Request.most_steps, Stops.Stops, declared.stop.Stop.Stop, Cause.{Step, behind, is_plain}, Place.{Run, sight_at, view_of}}, proofs.Views.view-at}
 use Rattle.debug_walk.specs.{Copies.{IsBefore, IsBegun}, Passing.{ArePassed, AreSilent, Sleeps}, Walk.{IsStretch, Walks, place_of}, declared.walk.Walk.Walk}
-use Rattle.device_debug.specs.{Ahead.{IsLastBehind, stop_with_place}, Going.cause_before}
-use Rattle.device_debug.proofs.{Back.{Covers, asleep-none, cause-behind, cause_back, covers-all, covers-here, covers-none, covers-on, early-or, no-boundary, plain-none, plain_at}}
+use Rattle.device_debug.{specs.{Ahead.{IsLastBehind, stop_with_place}, Going.cause_before}, proofs.Back.{Covers, asleep-none, cause-behind, cause_back, covers-all, covers-here, covers-none, covers-on, early-or, no-boundary, plain-none, plain_at}}
 
 either-early : (last : ℕ) (past : Bool) (one other : Option (ℕ × Stop))
     → IfSome one (λ is. is.0 ≤ last) → IfSome other (λ is. is.0 ≤ last)

@@ -1,21 +1,15 @@
 -- What is told where the last step was refused.
-use Rattle.std.proofs.{Common.{◌≡◌, ◌≤◌, ◌<◌, ◌∙◌, ◌++◌, ℕ, List, [], Option, Some, None, Result, Ok, Err, IsErr, refl, ap, sym, arith, ◌+◌, ◌⊎◌, ⊎_elim, zero, suc, Bool, true, false, is_some, subst}, lemmas.{Bool.{false≢true, cond-false, cond-true, le-ltb, lt-ltb}, List.append-nil}}
-use Rattle.std.specs.Prelude.{codes, nat_lt, if◌then◌else◌, is_ok}
+use Rattle.std.{proofs.{Common.{◌≡◌, ◌≤◌, ◌<◌, ◌∙◌, ◌++◌, ℕ, List, [], Option, Some, None, Result, Ok, Err, IsErr, refl, ap, sym, arith, ◌+◌, ◌⊎◌, ⊎_elim, zero, suc, Bool, true, false, is_some, subst}, lemmas.{Bool.{false≢true, cond-false, cond-true, le-ltb, lt-ltb}, List.append-nil}}, specs.Prelude.{codes, nat_lt, if◌then◌else◌, is_ok}}
 use Rattle.device_types.specs.declared.{rule.Rule.Rule, bus_record.BusRecord.BusRecord}
 use Rattle.hmac_core.specs.Hash.{Hash}
 use Rattle.printed_lines.specs.Line.{reset_line}
-use Rattle.debug_session.specs.{Request.most_steps, declared.stop.Stop.{Stop, TheVariants.Refused}, Cause.refusal_or, Place.{Run, sight_at, view_of, logs_at, no_step, play_to, step_at, step_sight}, Sight.{Sight, StepSight}}
-use Rattle.debug_session.proofs.Views.{view-at}
-use Rattle.debug_link.specs.{Console.console, Writing.{PacketSink, PutsPackets}, declared.answer_fault.AnswerFault.AnswerFault}
-use Rattle.debug_link.proofs.AddedText.{puts_behind}
-use Rattle.debug_walk.specs.{Copies.IsAt, declared.walk.Walk.Walk}
-use Rattle.device_debug.specs.{Ahead.{both_of, last_boundary, refused_at, place_past}, Going.StopsBefore, Telling.GrownText}
-use Rattle.device_debug.proofs.Ahead.{tells-ahead}
+use Rattle.debug_session.{specs.{Request.most_steps, declared.stop.Stop.{Stop, TheVariants.Refused}, Cause.refusal_or, Place.{Run, sight_at, view_of, logs_at, no_step, play_to, step_at, step_sight}, Sight.{Sight, StepSight}}, proofs.Views.view-at}
+use Rattle.debug_link.{specs.{Console.console, Writing.{PacketSink, PutsPackets}, declared.answer_fault.AnswerFault.AnswerFault}, proofs.AddedText.puts_behind}
+use Rattle.debug_walk.{specs.{Copies.IsAt, declared.walk.Walk.Walk}, proofs.Views.some-same}
+use Rattle.device_debug.{specs.{Ahead.{both_of, last_boundary, refused_at, place_past}, Going.StopsBefore, Telling.GrownText}, proofs.Ahead.tells-ahead}
 use Rattle.device_core.specs.Silence.{last_rule}
 use Rattle.device_trace.specs.Trace.{last_record, trace}
-use Rattle.debug_walk.proofs.Views.{some-same}
-use Rattle.outside_edge.specs.Sink.{Puts}
-use Rattle.outside_edge.specs.declared.sink.Sink as sink
+use Rattle.outside_edge.specs.{Sink.Puts, declared.sink.Sink.Ghosts as SinkGhosts}
 
 -- The text of a refusal grows in memory, and is put then.
 
@@ -42,7 +36,7 @@ has-both old mid new one two first second none puts is more too =
     (has-grown old mid one first puts is
     ∙ ap (λ (text : GrownText). text.bytes ++ one) none)
 
-module _ {W : Type 0} (w : sink.Ghosts W) where
+module _ {W : Type 0} (w : SinkGhosts W) where
   -- a call that failed before the first packet
   pub puts-none : {V E : Type 0} (same : PacketSink W) (bodies : List (List ℕ))
       (result : Result V E)
@@ -77,7 +71,7 @@ none-told : (last : Option ℕ) → both_of last None ≡ None
 none-told None = refl
 none-told (Some at) = refl
 
-module _ {D W : Type 0} (hash : Hash D) (w : sink.Ghosts W) (run : Run) (from step : ℕ)
+module _ {D W : Type 0} (hash : Hash D) (w : SinkGhosts W) (run : Run) (from step : ℕ)
     (few : step < most_steps)
   where
     abbrev StopsSo : PacketSink W → PacketSink W → Result (Option (Walk D × Stop)) AnswerFault

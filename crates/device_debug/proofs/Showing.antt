@@ -1,17 +1,12 @@
 -- What a debugger shows of where it stands.
-use Rattle.std.proofs.Common.{◌≡◌, ◌∙◌, ℕ, true, false, List, [], Option, Some, Result, ap, sym}
-use Rattle.std.specs.Prelude.{◌==◌, codes, min}
-use Rattle.std.proofs.lemmas.Bool.{cond-false, cond-true, eq-eqb, ne_eqb}
+use Rattle.std.{proofs.{Common.{◌≡◌, ◌∙◌, ℕ, true, false, List, [], Option, Some, Result, ap, sym}, lemmas.Bool.{cond-false, cond-true, eq-eqb, ne_eqb}}, specs.Prelude.{◌==◌, codes, min}}
 use Rattle.hex.specs.Hex.{encode_lower}
 use Rattle.hmac_core.specs.Hash.{Hash}
-use Rattle.outside_edge.specs.declared.sink.Sink as sink
+use Rattle.outside_edge.specs.declared.sink.Sink.{Ghosts as SinkGhosts}
 use Rattle.debug_link.specs.{Writing.PacketSink, declared.{answer_fault.AnswerFault.AnswerFault, connection.Connection.Connection}}
-use Rattle.debug_session.specs.{Place.{is_shown, sight_at}, Session.{Session, says}, Shown.{bytes_or, bytes_shown, memory_body, registers_bytes, registers_shown}, Sight.Sight}
-use Rattle.debug_session.proofs.Views.{view-at}
-use Rattle.debug_walk.specs.{Walk.OfWalk, declared.walk.Walk.Walk}
-use Rattle.debug_walk.proofs.ShownBytes.{none-there, some-there}
-use Rattle.device_debug.specs.{Session.{DebuggerStandsFor, Gives, run_at, view_in}, declared.debugger.Debugger.Debugger}
-use Rattle.device_debug.proofs.Answering.{holds-here, said-so}
+use Rattle.debug_session.{specs.{Place.{is_shown, sight_at}, Session.{Session, says}, Shown.{bytes_or, bytes_shown, memory_body, registers_bytes, registers_shown}, Sight.Sight}, proofs.Views.view-at}
+use Rattle.debug_walk.{specs.{Walk.OfWalk, declared.walk.Walk.Walk}, proofs.ShownBytes.{none-there, some-there}}
+use Rattle.device_debug.{specs.{Session.{DebuggerStandsFor, Gives, run_at, view_in}, declared.debugger.Debugger.Debugger}, proofs.Answering.{holds-here, said-so}}
 
 module _ (here : Sight) (first size : ℕ) where
   abbrev some_body : List ℕ
@@ -24,7 +19,7 @@ module _ (here : Sight) (first size : ℕ) where
   some-body : (size ≡ 0 → ⊥) → memory_body here first size ≡ some_body
   some-body some = cond-false (size == 0) [] some_body (ne_eqb size 0 some)
 
-module _ {D W : Type 0} (hash : Hash D) (w : sink.Ghosts W) where
+module _ {D W : Type 0} (hash : Hash D) (w : SinkGhosts W) where
   sight-here : (debugger : Debugger D) (session : Session)
       → DebuggerStandsFor hash debugger session
       → sight_at (run_at hash debugger) session.place ≡ view_in hash debugger session.place

@@ -1,18 +1,15 @@
 -- Texts that wait, and the packets of them that are put.
-use Rattle.std.proofs.{Common.{◌≡◌, ◌<◌, ◌+◌, ◌∙◌, ◌++◌, ℕ, suc, true, false, List, [], ◌∷◌, Result, Ok, Err, length, get_or, take, drop, refl, ap, sym, subst, append_assoc, append-nil, ⊎_elim, Some}, lemmas.{Bool.{cases_Bool, false≢true}, List.{take_more, take-append-drop}, Result.on_ok_weaker}}
-use Rattle.std.specs.Prelude.{IsErr, OnOk, is_ok, if◌then◌else◌}
+use Rattle.std.{proofs.{Common.{◌≡◌, ◌<◌, ◌+◌, ◌∙◌, ◌++◌, ℕ, suc, true, false, List, [], ◌∷◌, Result, Ok, Err, length, get_or, take, drop, refl, ap, sym, subst, append_assoc, append-nil, ⊎_elim, Some}, lemmas.{Bool.{cases_Bool, false≢true}, List.{take_more, take-append-drop}, Result.on_ok_weaker}}, specs.Prelude.{IsErr, OnOk, is_ok, if◌then◌else◌}}
 use Rattle.hmac_core.specs.Hash.{Hash}
 use Rattle.device_core.specs.{Device.LiveStandsFor, declared.live.Live.Live}
 use Rattle.device_trace.specs.Trace.{play_of}
 use Rattle.device_play.proofs.WriteCounts.{nothing-begun}
-use Rattle.debug_link.specs.{Console.console, Packet.packets_of, Writing.{HasPut, PacketSink, PutsPackets}}
-use Rattle.debug_link.proofs.AddedText.{put_both, put_none, puts_behind, puts_failed, puts_less}
+use Rattle.debug_link.{specs.{Console.console, Packet.packets_of, Writing.{HasPut, PacketSink, PutsPackets}}, proofs.AddedText.{put_both, put_none, puts_behind, puts_failed, puts_less}}
 use Rattle.debug_session.specs.Place.{Run, sight_at, logs_at, play_to, step_sight}
-use Rattle.debug_walk.specs.{Walk.{AuxFlag, Walks, place_of, second_flag}, declared.walk.Walk.Walk}
+use Rattle.debug_walk.{specs.{Walk.{AuxFlag, Walks, place_of, second_flag}, declared.walk.Walk.Walk}, proofs.Views.some-same}
 use Rattle.device_debug.specs.Telling.{GrownText, TellsStep, bodies_of, step_bodies}
 use Rattle.trace_files.specs.{LineText.trace_line, declared.trace_line.TraceLine.TraceLine, TraceText.last_line}
-use Rattle.debug_walk.proofs.Views.{some-same}
-use Rattle.outside_edge.specs.declared.sink.Sink as sink
+use Rattle.outside_edge.specs.declared.sink.Sink.{Ghosts as SinkGhosts}
 
 -- the packets of texts, one list behind another
 pub bodies-both : (xs ys : List GrownText) → bodies_of (xs ++ ys) ≡ bodies_of xs ++ bodies_of ys
@@ -53,7 +50,7 @@ pub bodies-rest : (texts : List GrownText) (n : ℕ)
 bodies-rest texts n =
     ap bodies_of (sym (take-append-drop n texts)) ∙ bodies-both (take n texts) (drop n texts)
 
-module _ {W : Type 0} (w : sink.Ghosts W) where
+module _ {W : Type 0} (w : SinkGhosts W) where
   -- the call of one text failed, behind those before it
   pub texts-failed : {V U E F : Type 0} (old mid new : PacketSink W) (texts : List GrownText)
       (n : ℕ) (text : GrownText) (error : E) (result : Result V F)

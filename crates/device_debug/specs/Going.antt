@@ -6,9 +6,8 @@ use Rattle.debug_link.specs.{Console.console, Packet.packets_of, Writing.{HasPut
 use Rattle.debug_walk.specs.{Copies.IsAt, Walk.{IsFresh, Walks, place_of}, declared.{walk.Walk.Walk, stretch.Stretch.Stretch}}
 use Rattle.hmac_core.specs.Hash.{Hash}
 use Rattle.printed_lines.specs.Line.{reset_line}
-use Rattle.outside_edge.specs.Sink.{TakesPrefix}
+use Rattle.outside_edge.specs.{Sink.TakesPrefix, declared.sink.Sink.Ghosts as SinkGhosts}
 use Rattle.device_debug.specs.declared.seek.Seek.{Seek}
-use Rattle.outside_edge.specs.declared.sink.Sink as sink
 
 -- a walk that stands at this place of a run, and may go on there, or is at the end
 pub record StandsAt {D : Type 0} (hash : Hash D) (run : Run)
@@ -25,7 +24,7 @@ pub record HasArrived {D : Type 0} (hash : Hash D) (run : Run)
   pub stop_is : stop ≡ now.stop
 
 -- it went on from a place, and the lines of the steps between were put, or a prefix of them
-pub record GoesOn {D W : Type 0} (hash : Hash D) (w : sink.Ghosts W)
+pub record GoesOn {D W : Type 0} (hash : Hash D) (w : SinkGhosts W)
     (old new : PacketSink W) (run : Run) (place : ℕ) (now : Standing)
     (result : Result (Walk D × Stop) AnswerFault) : Type 0 where
   pub arrived : IfOk result (λ end. HasArrived hash run now end.0 end.1)
@@ -34,7 +33,7 @@ pub record GoesOn {D W : Type 0} (hash : Hash D) (w : sink.Ghosts W)
       (packets_of (lines_to (view_of run) Ahead place now)))
 
 -- where a step is refused it is told of, and a walk stands at the boundary before it
-abbrev pub StopsBefore : {D W : Type 0} → Hash D → sink.Ghosts W → PacketSink W → PacketSink W
+abbrev pub StopsBefore : {D W : Type 0} → Hash D → SinkGhosts W → PacketSink W → PacketSink W
     → Run → ℕ → Option (ℕ × Rule) → Result (Option (Walk D × Stop)) AnswerFault → Type 0
 StopsBefore hash w old new run step None result =
     (new ≡ old) × IfOk result (λ stopped. stopped ≡ None)

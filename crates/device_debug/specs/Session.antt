@@ -1,7 +1,7 @@
 -- A debugger that stands where its session stands.
 use Rattle.std.specs.Prelude.{◌≡◌, ℕ, List, Option, Result, Some}
 use Rattle.hmac_core.specs.Hash.{Hash}
-use Rattle.outside_edge.specs.declared.sink.Sink as sink
+use Rattle.outside_edge.specs.declared.sink.Sink.{Ghosts as SinkGhosts}
 use Rattle.debug_link.specs.{Conversation.{Answer, HaveCome, count_of}, Writing.{Answers, PacketSink}, declared.{answer_fault.AnswerFault.AnswerFault, connection.Connection.Connection}}
 use Rattle.debug_session.specs.{Place.{Run, view_of}, Session.{Session, reply}, Sight.View}
 use Rattle.debug_walk.specs.{Copies.{TrackStandsFor, played_run}, declared.walk.Walk.Walk}
@@ -45,7 +45,7 @@ StandsInRun hash it now =
     (run_at hash it.debugger ≡ now.run) × DebuggerStandsFor hash it.debugger now.session
 
 -- wherever a debugger's session stands, this is answered, and the run stays as it is
-pub record Gives {D W : Type 0} (hash : Hash D) (w : sink.Ghosts W)
+pub record Gives {D W : Type 0} (hash : Hash D) (w : SinkGhosts W)
     (packets packets_new : PacketSink W) (old new : Debugger D) (answer : Session → Answer Session)
     (result : Result Connection AnswerFault) : Type 0 where
   pub answers : (session : Session)
@@ -54,7 +54,7 @@ pub record Gives {D W : Type 0} (hash : Hash D) (w : sink.Ghosts W)
   pub same_run : new.track.run ≡ old.track.run
 
 -- wherever it stands, this is answered, where an interrupt that has come ends it so, or none does
-pub record MayGive {D W : Type 0} (hash : Hash D) (w : sink.Ghosts W) (left left_new : Option ℕ)
+pub record MayGive {D W : Type 0} (hash : Hash D) (w : SinkGhosts W) (left left_new : Option ℕ)
     (packets packets_new : PacketSink W) (old new : Debugger D)
     (answer : Option ℕ → Session → Answer Session) (result : Result Connection AnswerFault)
     : Type 0 where

@@ -1,10 +1,9 @@
 -- The lines of steps that a debugger is told, and those that wait.
 use Rattle.std.specs.Prelude.{◌≡◌, ◌++◌, ℕ, suc, true, false, List, [], ◌∷◌, Result, OnErr, OnOk}
-use Rattle.outside_edge.specs.Sink.{TakesPrefix}
+use Rattle.outside_edge.specs.{Sink.TakesPrefix, declared.sink.Sink.Ghosts as SinkGhosts}
 use Rattle.debug_link.specs.{Console.console, Packet.packets_of, Writing.{HasPut, PacketSink}}
 use Rattle.debug_session.specs.{Place.{Run, sight_at, step_sight}, Sight.StepSight}
 use Rattle.device_debug.specs.declared.step_text.StepText.{StepText, TheVariants.{Lines, Trace}}
-use Rattle.outside_edge.specs.declared.sink.Sink as sink
 
 -- A text that grows in memory.
 
@@ -24,7 +23,7 @@ bodies_of (text ∷ texts) = console text.bytes ++ bodies_of texts
 
 -- behind a step some of the packets that waited and of its own were put, and the others wait: all
 -- were put at a boundary, and none elsewhere
-pub record TellsStep {W V E : Type 0} (w : sink.Ghosts W) (old new : PacketSink W)
+pub record TellsStep {W V E : Type 0} (w : SinkGhosts W) (old new : PacketSink W)
     (waiting waiting_new : List GrownText) (run : Run) (step : ℕ) (result : Result V E)
     : Type 0 where
   pub put : List (List ℕ)

@@ -1,5 +1,4 @@
-ghost use Rattle.std.specs.Prelude.{◌≡◌, ◌≤◌, ◌<◌, ◌+◌, ◌-◌, ◌⊎◌, ℕ, IfOk, Option, false, length, nat_lt, true, if◌then◌else◌};
-ghost use Rattle.std.specs.Option.{option_or};
+ghost use Rattle.std.specs.{Prelude.{◌≡◌, ◌≤◌, ◌<◌, ◌+◌, ◌-◌, ◌⊎◌, ℕ, IfOk, Option, false, length, nat_lt, true, if◌then◌else◌}, Option.option_or};
 ghost use Rattle.debug_session.specs.{Request.most_steps, Cause.{behind, cause, is_due, is_plain}, Going.{interrupted, last_stop}, Place.{Run, sight_at, view_of}};
 ghost use Rattle.debug_link.specs.Conversation.{HaveCome, count_of};
 ghost use Rattle.debug_walk.specs.{Copies.{IsBefore, IsBegun, TrackStandsFor}, Passing.{ArePassed, AreSilent}, Walk.{IsStretch, OfWalk, Walks, place_of}};

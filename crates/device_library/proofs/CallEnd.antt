@@ -1,7 +1,6 @@
 -- How a call ends: by the run whose text was kept.
 use Rattle.std.proofs.Common.{rules, ◌≡◌, [], ℕ, Bool, true, false, List, Option, Some, None, inl, inr, ap, subst, sym}
-use Rattle.outside_edge.specs.Shelf.{SureShelf}
-use Rattle.outside_edge.proofs.Counts.{never_rises}
+use Rattle.outside_edge.{specs.Shelf.SureShelf, proofs.Counts.never_rises}
 use Rattle.input_files.specs.{declared.status.Status.{Status, TheVariants.{Done, Rejected, ReadFault, WriteFault, Memory}}, Reading.{Files, first_refusal}}
 use Rattle.device_cli.specs.{Answer.{Answers, Follows, HasOutcome, PutsAll, IsRun}, Row.Row}
 use Rattle.device_library.specs.{Call.{IsAnswer, IsCall}, KeptText.KeptBytes, Shown.{IsTold, Shows, ShowsFirst}}

@@ -1,6 +1,4 @@
-ghost use Rattle.std.specs.Prelude.{◌≡◌, ◌≤◌, length};
-ghost use Rattle.std.specs.Str.{IsUtf8};
-ghost use Rattle.std.specs.Str.Lines.{lines};
+ghost use Rattle.std.specs.{Prelude.{◌≡◌, ◌≤◌, length}, Str.{IsUtf8, Lines.lines}};
 ghost use Rattle.outside_edge.specs.File.{named_files};
 ghost use Rattle.input_files.specs.{CommandLine.texts, declared.status.Status.TheVariants.{Words, WriteFault}};
 ghost use Rattle.device_cli.specs.Command.{row_of};

@@ -4,9 +4,7 @@
 //! [`device_run`] is the one export; `include/device.h` declares it for C.
 #![tactic(auto)]
 
-ghost use Rattle.std.specs.Prelude.{◌≡◌, ◌≤◌, length};
-ghost use Rattle.std.specs.Str.{IsUtf8};
-ghost use Rattle.std.specs.Str.Lines.{lines};
+ghost use Rattle.std.specs.{Prelude.{◌≡◌, ◌≤◌, length}, Str.{IsUtf8, Lines.lines}};
 ghost use Rattle.input_files.specs.Status.{EndsAs};
 ghost use Rattle.device_cli.specs.Command.{row_of};
 ghost use Rattle.device_library.specs.Call.{IsCall, files_named};

@@ -1,5 +1,4 @@
-ghost use Rattle.std.specs.Prelude.{◌≡◌, IfOk, map};
-ghost use Rattle.std.specs.Str.Lines.{lines};
+ghost use Rattle.std.specs.{Prelude.{◌≡◌, IfOk, map}, Str.Lines.lines};
 ghost use Rattle.input_files.specs.CommandLine.{texts};
 
 use std::alloc::{AllocError, Global};

@@ -1,20 +1,15 @@
 -- What a line's answer comes to.
-use Rattle.std.proofs.Common.{◌≡◌, ◌≤◌, ◌<◌, ◌-◌, ℕ, true, false, List, Result, Ok, Err, refl, arith, append-nil}
-use Rattle.std.specs.Prelude.{IsErrAnd, nat_lt}
-use Rattle.std.proofs.lemmas.Bool.Decides.{nat_tests}
+use Rattle.std.{proofs.{Common.{◌≡◌, ◌≤◌, ◌<◌, ◌-◌, ℕ, true, false, List, Result, Ok, Err, refl, arith, append-nil}, lemmas.Bool.Decides.nat_tests}, specs.Prelude.{IsErrAnd, nat_lt, codes}}
 use Rattle.device_types.specs.{Address.Bytes, TraceFlag.Flag, declared.event.Event.Event}
 use Rattle.hmac_core.specs.Hash.{Hash}
-use Rattle.outside_edge.specs.{Calls.Rose, Sink.{CountsFaults, Puts, Takes, TakesPrefix}, declared.sink.Failed.Failed}
-use Rattle.outside_edge.specs.declared.sink.Sink as sink
-use Rattle.outside_edge.proofs.SinkLemmas.{prefix_after, prefix_of_more, takes_both}
+use Rattle.outside_edge.{specs.{Calls.Rose, Sink.{CountsFaults, Puts, Takes, TakesPrefix}, declared.sink.{Failed.Failed, Sink.Ghosts as SinkGhosts}}, proofs.SinkLemmas.{prefix_after, prefix_of_more, takes_both}}
 use Rattle.text_scan.specs.{declared.{fault_kind.FaultKind.{FaultKind, TheVariants.Order}, word_fault.WordFault.WordFault}}
 use Rattle.text_scan.specs.declared.word_fault.WordFault.TheVariants as words
 use Rattle.device_trace.specs.Start.{Start}
 use Rattle.source_server.specs.declared.halt.Halt.TheVariants as halt
 use Rattle.device_live.specs.{Answer.{Answer, answer_of, refusal_line, says, standing_line}, Faults.{fault_of, halt_of}, Life.{Life, events_in, lines_since}, LiveLine.{Happens, Run}, Living.{AnswersNumbered, AnswersSo, LivingStandsFor, TakesHappening}, declared.{line_fault.LineFault.{LineFault, TheVariants.{Kind, Write}}, living.Living.Living}}
-use Rattle.std.specs.Prelude.{codes}
 
-module _ {D G S : Type 0} (hash : Hash D) (flag : Flag G) (w : sink.Ghosts S) (start : Start)
+module _ {D G S : Type 0} (hash : Hash D) (flag : Flag G) (w : SinkGhosts S) (start : Start)
     (life : Life) where
   -- a happening
   pub happens-taken : (now : S) (living : Living D G) (step : ℕ) (events : List Event)

@@ -1,16 +1,11 @@
 -- A life behind lines.
-use Rattle.std.proofs.Common.{◌≡◌, ◌≤◌, ◌+◌, ◌-◌, ◌∙◌, ◌++◌, ℕ, false, List, [], ◌∷◌, Option, Some, None, Result, Ok, Err, IfOk, length, refl, ap, sym, arith, ⊎_elim}
-use Rattle.std.specs.Prelude.{nat_lt, suc}
-use Rattle.std.proofs.lemmas.Bool.{cases_Bool}
-use Rattle.std.proofs.lemmas.Bool.Decides.{nat_tests}
-use Rattle.std.proofs.lemmas.List.{append-nil}
+use Rattle.std.{proofs.{Common.{◌≡◌, ◌≤◌, ◌+◌, ◌-◌, ◌∙◌, ◌++◌, ℕ, false, List, [], ◌∷◌, Option, Some, None, Result, Ok, Err, IfOk, length, refl, ap, sym, arith, ⊎_elim}, lemmas.{Bool.{cases_Bool, Decides.nat_tests}, List.append-nil}}, specs.Prelude.{nat_lt, suc}}
 use Rattle.device_types.specs.{Address.Bytes, declared.event.Event.Event}
 use Rattle.play_script.specs.{Grammar.{ScriptSoFar, timed_events, with_entry}, Script.{TimedEvent, events_of}}
 use Rattle.text_scan.specs.{Reader.◌>>=◌, Word.{is_passed_over, words_of}, declared.fault_kind.FaultKind.FaultKind}
 use Rattle.device_trace.specs.{Trace.{Play, play_of}, Start.Start, Text.lines_of}
 use Rattle.source_server.specs.HeldLine.{short_line}
-use Rattle.device_live.specs.{Answer.{Answer, answer_of, or_refusal, silent_answer, tells}, Conversation.{answer_to, talk_of}, Laws.{IsCutAnywhere, TellsItsPlay}, Life.{Life, events_in, lines_since, play_lived, with_script, with_steps}, LiveLine.{LiveLine, Happens, Run, Registers, Memory, live_line_of}}
-use Rattle.device_live.proofs.ToldPlay.{events-behind, lines-on, same-play, since-between}
+use Rattle.device_live.{specs.{Answer.{Answer, answer_of, or_refusal, silent_answer, tells}, Conversation.{answer_to, talk_of}, Laws.{IsCutAnywhere, TellsItsPlay}, Life.{Life, events_in, lines_since, play_lived, with_script, with_steps}, LiveLine.{LiveLine, Happens, Run, Registers, Memory, live_line_of}}, proofs.ToldPlay.{events-behind, lines-on, same-play, since-between}}
 
 -- an answer tells what lies between the play of a life and that of the life behind it
 abbrev Tells : Start → Life → Answer → Type 0

@@ -1,17 +1,13 @@
 -- A life that is played on, and what is put of its steps.
-use Rattle.std.proofs.Common.{◌≡◌, ◌≤◌, ◌<◌, ◌+◌, ◌-◌, ◌∙◌, ◌++◌, ◌∷◌, [], ℕ, zero, suc, false, List, Result, Ok, Err, IsErr, refl, ap, sym, arith, append-nil}
-use Rattle.std.proofs.lemmas.Bool.{false≢true}
+use Rattle.std.proofs.{Common.{◌≡◌, ◌≤◌, ◌<◌, ◌+◌, ◌-◌, ◌∙◌, ◌++◌, ◌∷◌, [], ℕ, zero, suc, false, List, Result, Ok, Err, IsErr, refl, ap, sym, arith, append-nil}, lemmas.Bool.false≢true}
 use Rattle.device_types.specs.{Address.Bytes, TraceFlag.Flag, declared.event.Event.Event}
 use Rattle.hmac_core.specs.Hash.{Hash}
-use Rattle.outside_edge.specs.Sink.{Takes, TakesPrefix}
-use Rattle.outside_edge.proofs.SinkLemmas.{prefix_after, prefix_of_more, takes_both}
+use Rattle.outside_edge.{specs.Sink.{Takes, TakesPrefix}, proofs.SinkLemmas.{prefix_after, prefix_of_more, takes_both}}
 use Rattle.device_trace.specs.{Start.Start, Text.lines_of_step, Trace.play_of}
 use Rattle.play_script.specs.{Playback.events_left, declared.playback.Playback.Playback}
 use Rattle.device_core.specs.{Device.{LiveStandsFor, steps_made}, Quiet.Question, declared.live.Live.Live}
-use Rattle.device_play.specs.{Account.IsPassed, Midway.{HasGoneOn, IsMidway}}
-use Rattle.device_play.proofs.{GoesOn.lines-go_on, WatchedPlay.{gone-passed, length-play_of, at-count}}
-use Rattle.device_live.specs.{Life.{Life, events_in, lines_since, play_lived}, Living.PlaysOn}
-use Rattle.device_live.proofs.ToldPlay.{since-between}
+use Rattle.device_play.{specs.{Account.IsPassed, Midway.{HasGoneOn, IsMidway}}, proofs.{GoesOn.lines-go_on, WatchedPlay.{gone-passed, length-play_of, at-count}}}
+use Rattle.device_live.{specs.{Life.{Life, events_in, lines_since, play_lived}, Living.PlaysOn}, proofs.ToldPlay.since-between}
 
 -- steps that are passed have no lines
 passed-lines : (start : Start) (events_at : ℕ → List Event) (made more : ℕ)

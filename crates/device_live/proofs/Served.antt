@@ -1,14 +1,8 @@
 -- What was put once a source was served, its end line among it.
-use Rattle.std.proofs.Common.{◌≡◌, ◌≤◌, ◌+◌, ◌++◌, ◌∙◌, ◌⊎◌, ℕ, suc, List, [], ◌∷◌, Some, Result, Ok, Err, length, take, drop, refl, ap, sym, subst, arith, inl, inr, append_assoc, append-nil, length-append, ⊎_elim}
-use Rattle.std.specs.Prelude.{codes, nat_eq}
-use Rattle.std.specs.declared.alloc.AllocError.{AllocError}
-use Rattle.std.proofs.lemmas.Bool.{cases_Bool}
+use Rattle.std.{proofs.{Common.{◌≡◌, ◌≤◌, ◌+◌, ◌++◌, ◌∙◌, ◌⊎◌, ℕ, suc, List, [], ◌∷◌, Some, Result, Ok, Err, length, take, drop, refl, ap, sym, subst, arith, inl, inr, append_assoc, append-nil, length-append, ⊎_elim}, lemmas.Bool.cases_Bool}, specs.{Prelude.{codes, nat_eq}, declared.alloc.AllocError.AllocError}}
 use Rattle.device_types.specs.{Address.Bytes, TraceFlag.Flag}
 use Rattle.hmac_core.specs.Hash.{Hash}
-use Rattle.outside_edge.specs.{Buffer.{Buffer, BufferStandsFor}, Calls.Rose, Sink.{CountsFaults, Puts, Takes, TakesPrefix}, declared.sink.Failed.Failed}
-use Rattle.outside_edge.specs.declared.sink.Sink as sink
-use Rattle.outside_edge.specs.declared.source.Source as source
-use Rattle.outside_edge.proofs.{Counts.rose_since, SinkLemmas.{prefix_after, prefix_of_more, takes_both}}
+use Rattle.outside_edge.{specs.{Buffer.{Buffer, BufferStandsFor}, Calls.Rose, Sink.{CountsFaults, Puts, Takes, TakesPrefix}, declared.{sink.{Failed.Failed, Sink.Ghosts as SinkGhosts}, source.Source.Ghosts as SourceGhosts}}, proofs.{Counts.rose_since, SinkLemmas.{prefix_after, prefix_of_more, takes_both}}}
 use Rattle.source_server.specs.{HeldLine.short_line, LineCut.{LineCut, all_lines, cut_of, no_lines, whole_lines, with_byte, with_bytes, with_last}, Lines.{promise_of, within}, Responder.{Moment, Promise}, Serving.{EndsSo, StopsSo}, Taken.{joined_pieces, most_input}, declared.{halt.Halt.{Halt, TheVariants.{Write, Own}}, lines.Lines.Lines, served.Served.Served}}
 use Rattle.source_server.specs.declared.served.Served.TheVariants as served
 use Rattle.device_trace.specs.Start.{Start}
@@ -82,7 +76,7 @@ rose-kept faults first old new (Err failed) before rose counts =
     rose_since first (faults old) (faults new) before counts.failed
 
 -- what waited in a buffer was put, or it failed
-pub record IsFinished {W : Type 0} (w : sink.Ghosts W) (buffer : Buffer W) (out : W)
+pub record IsFinished {W : Type 0} (w : SinkGhosts W) (buffer : Buffer W) (out : W)
     (result : Result Unit Failed) : Type 0 where
   pub puts : (begun : Buffer W) (text : List ℕ) → begun.waiting ≡ []
       → Takes (BufferStandsFor w.stands) begun buffer text
@@ -94,7 +88,7 @@ pub record IsFinished {W : Type 0} (w : sink.Ghosts W) (buffer : Buffer W) (out 
   pub idle : buffer.waiting ≡ [] → (out ≡ buffer.sink) × (result ≡ Ok tt)
 
 -- the end line was put where all was answered, or it failed
-pub record HasEnded {D G W : Type 0} (hash : Hash D) (flag : Flag G) (w : sink.Ghosts W)
+pub record HasEnded {D G W : Type 0} (hash : Hash D) (flag : Flag G) (w : SinkGhosts W)
     (start : Start) (living : Living D G) (old new : Buffer W) (how : Served AllocError)
     (result : Result Unit Failed) : Type 0 where
   pub end : how ≡ served.Done → (life : Life) → LivingStandsFor hash flag living start life
@@ -106,7 +100,7 @@ abbrev halt_with : Halt AllocError → Result Unit Failed → Halt AllocError
 halt_with why (Ok tt) = why
 halt_with why (Err failed) = Write
 
-module _ {D G W : Type 0} (hash : Hash D) (flag : Flag G) (w : sink.Ghosts W) (start : Start)
+module _ {D G W : Type 0} (hash : Hash D) (flag : Flag G) (w : SinkGhosts W) (start : Start)
     (first : W) (now : Moment (Lines (Living D G)) (Buffer W)) (out : W)
     (rises : w.faults first ≤ w.faults now.edge.sink) where
   abbrev begun : Buffer W
@@ -222,7 +216,7 @@ module _ {D G W : Type 0} (hash : Hash D) (flag : Flag G) (w : sink.Ghosts W) (s
             ends.counts.failed) finished.counts,
       )
 
-  module _ {R : Type 0} (r : source.Ghosts R) (old new : R) where
+  module _ {R : Type 0} (r : SourceGhosts R) (old new : R) where
     -- at the end of the source, where an append of nothing is read away
     at-end : (bytes : List ℕ) → StopsLife w start first out (all_lines bytes) Write
         → StopsLife w start first out (all_lines (bytes ++ [])) Write
@@ -315,7 +309,7 @@ pair-parts {A} {B} pair one two same =
     (ap (λ (each : A × B). each.0) same, ap (λ (each : A × B). each.1) same)
 
 -- before the first byte
-pub begins-told : {D G W : Type 0} (hash : Hash D) (flag : Flag G) (w : sink.Ghosts W)
+pub begins-told : {D G W : Type 0} (hash : Hash D) (flag : Flag G) (w : SinkGhosts W)
     (start : Start) (lines : Lines (Living D G)) (buffer : Buffer W) → buffer.waiting ≡ []
     → lines.held ≡ Some []
     → lines.responder.lines ≡ 0

@@ -1,14 +1,11 @@
 -- What a device that lives keeps of what is to come.
-use Rattle.std.proofs.Common.{◌≡◌, ◌≤◌, ◌∙◌, ◌++◌, ℕ, true, false, List, Ok, Err, refl, ap, sym, arith}
-use Rattle.std.specs.Prelude.{nat_lt}
+use Rattle.std.{proofs.Common.{◌≡◌, ◌≤◌, ◌∙◌, ◌++◌, ℕ, true, false, List, Ok, Err, refl, ap, sym, arith}, specs.Prelude.nat_lt}
 use Rattle.device_types.specs.{TraceFlag.Flag, declared.event.Event.Event}
 use Rattle.hmac_core.specs.Hash.{Hash}
-use Rattle.play_script.specs.{Grammar.{ScriptSoFar, timed_events, with_entry}, Script.{TimedEvent, events_of, from_step}}
-use Rattle.play_script.proofs.Passing.{events_from}
+use Rattle.play_script.{specs.{Grammar.{ScriptSoFar, timed_events, with_entry}, Script.{TimedEvent, events_of, from_step}}, proofs.Passing.events_from}
 use Rattle.text_scan.specs.{declared.{fault_kind.FaultKind.{FaultKind, TheVariants.Order}, word_fault.WordFault.TheVariants.Kind}}
 use Rattle.device_trace.specs.Start.{Start}
-use Rattle.device_live.specs.{Life.Life, Living.{KeepsToCome, LivingStandsFor, TakesHappening}, declared.living.Living.Living}
-use Rattle.device_live.proofs.{Lives.entry-lived, ToldPlay.events_of-append}
+use Rattle.device_live.{specs.{Life.Life, Living.{KeepsToCome, LivingStandsFor, TakesHappening}, declared.living.Living.Living}, proofs.{Lives.entry-lived, ToldPlay.events_of-append}}
 
 -- once more steps were made, what comes before them may be let go
 pub keeps-later : (kept : List TimedEvent) (life : Life) (steps : ℕ) → life.steps ≤ steps

@@ -1,13 +1,8 @@
 -- A device that lives, behind one line more.
-use Rattle.std.proofs.Common.{◌≡◌, ◌≤◌, ◌<◌, ◌+◌, ◌++◌, ℕ, suc, List, [], ◌∷◌, Result, Ok, Err, length, sym, subst, arith}
-use Rattle.std.specs.Prelude.{OnOk}
-use Rattle.std.proofs.Math.Seq.{take-length}
-use Rattle.std.specs.declared.alloc.AllocError.{AllocError}
+use Rattle.std.{proofs.{Common.{◌≡◌, ◌≤◌, ◌<◌, ◌+◌, ◌++◌, ℕ, suc, List, [], ◌∷◌, Result, Ok, Err, length, sym, subst, arith}, Math.Seq.take-length}, specs.{Prelude.OnOk, declared.alloc.AllocError.AllocError}}
 use Rattle.device_types.specs.{Address.Bytes, TraceFlag.Flag}
 use Rattle.hmac_core.specs.Hash.{Hash}
-use Rattle.outside_edge.specs.{Buffer.{Buffer, BufferStandsFor}, Calls.Rose, Sink.{CountsFaults, Takes, TakesPrefix}, declared.sink.Failed.Failed}
-use Rattle.outside_edge.specs.declared.sink.Sink as sink
-use Rattle.outside_edge.proofs.{Counts.rose_since, SinkLemmas.{prefix_after, takes_both}}
+use Rattle.outside_edge.{specs.{Buffer.{Buffer, BufferStandsFor}, Calls.Rose, Sink.{CountsFaults, Takes, TakesPrefix}, declared.sink.{Failed.Failed, Sink.Ghosts as SinkGhosts}}, proofs.{Counts.rose_since, SinkLemmas.{prefix_after, takes_both}}}
 use Rattle.source_server.specs.{HeldLine.short_line, Lines.{Settles, Tells}, Responder.Moment, declared.halt.Halt.{Halt, TheVariants.{Write, Own}}}
 use Rattle.device_trace.specs.Start.{Start}
 use Rattle.device_live.specs.{Answer.{Answer, or_refusal}, Conversation.{Talk, answer_to, talk_of}, Faults.halt_of, Life.Life, Living.{AnswersNumbered, LivingStandsFor}, LineResponder.{AreFew, HasTold, LiveStart, StopsTold, buffer_sink, live_promise}, declared.living.Living.Living}
@@ -18,7 +13,7 @@ pub whole-prefix : {S : Type 0} (stands : S → Bytes → Type 0) (old new : S) 
 whole-prefix stands old new text takes =
     (length text, omega arith, λ before holds. rw take-length (takes before holds))
 
-module _ {D G W : Type 0} (hash : Hash D) (flag : Flag G) (w : sink.Ghosts W)
+module _ {D G W : Type 0} (hash : Hash D) (flag : Flag G) (w : SinkGhosts W)
     (at : LiveStart W) where
   module _ (old new : Moment (Living D G) (Buffer W)) (earlier : List (List ℕ)) (line : List ℕ)
       (told : HasTold hash flag w at old earlier)

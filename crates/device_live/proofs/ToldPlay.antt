@@ -1,12 +1,7 @@
 -- What is told of steps, and the lines that `play` prints of the play up to them.
-use Rattle.std.proofs.Common.{◌≡◌, ◌<◌, ◌≤◌, ◌+◌, ◌-◌, ◌∙◌, ◌++◌, ℕ, zero, suc, List, [], ◌∷◌, map, refl, ap, sym, arith, append_assoc}
-use Rattle.std.specs.List.{filter}
-use Rattle.std.specs.Prelude.{nat_eq}
-use Rattle.std.proofs.lemmas.List.{append-nil, map-append}
-use Rattle.std.proofs.lemmas.List.Elements.{filter-append}
+use Rattle.std.{proofs.{Common.{◌≡◌, ◌<◌, ◌≤◌, ◌+◌, ◌-◌, ◌∙◌, ◌++◌, ℕ, zero, suc, List, [], ◌∷◌, map, refl, ap, sym, arith, append_assoc}, lemmas.List.{append-nil, map-append, Elements.filter-append}}, specs.{List.filter, Prelude.nat_eq}}
 use Rattle.device_types.specs.{Address.Bytes, declared.event.Event.Event}
-use Rattle.play_script.specs.{Grammar.timed_events, Script.{TimedEvent, events_of}}
-use Rattle.play_script.proofs.Steps.{events_of-other}
+use Rattle.play_script.{specs.{Grammar.timed_events, Script.{TimedEvent, events_of}}, proofs.Steps.events_of-other}
 use Rattle.device_trace.specs.{Start.Start, Text.{lines_of, lines_of_step}, Trace.play_of}
 use Rattle.device_live.specs.Life.{lines_since}
 

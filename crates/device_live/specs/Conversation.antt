@@ -5,8 +5,7 @@ use Rattle.text_scan.specs.{declared.fault_kind.FaultKind.{FaultKind, TheVariant
 use Rattle.source_server.specs.{HeldLine.short_line, LineCut.{all_lines, whole_lines}, Responder.Promise, declared.halt.Halt.{Halt, TheVariants.{Write, Own}}}
 use Rattle.device_trace.specs.Start.{Start}
 use Rattle.device_live.specs.{Answer.{Answer, answer_of, or_refusal, silent_answer, standing_line}, Life.{Life, at_power_on}, LiveLine.live_line_of}
-use Rattle.outside_edge.specs.{Calls.Rose, Sink.{Takes, TakesPrefix}}
-use Rattle.outside_edge.specs.declared.sink.Sink as sink
+use Rattle.outside_edge.specs.{Calls.Rose, Sink.{Takes, TakesPrefix}, declared.sink.Sink.Ghosts as SinkGhosts}
 
 -- the life behind lines, what `play` prints of its steps, and all that was put
 pub record Talk : Type 0 where
@@ -58,7 +57,7 @@ conversation start lines =
 -- What is put into a sink of the lines that a source gives to a device that lives.
 
 -- there was no memory for one of these lines, and what is due to those before it was put
-pub record StopsBefore {W : Type 0} (w : sink.Ghosts W) (start : Start) (first now : W)
+pub record StopsBefore {W : Type 0} (w : SinkGhosts W) (start : Start) (first now : W)
     (lines : List (List ℕ)) : Type 0 where
   pub later : List (List ℕ)
   pub line : List ℕ
@@ -67,7 +66,7 @@ pub record StopsBefore {W : Type 0} (w : sink.Ghosts W) (start : Start) (first n
   pub put : Takes w.stands first now (talk_of start earlier).text
 
 -- the sink failed within the conversation
-abbrev pub StopsLife : {W : Type 0} → sink.Ghosts W → Start → W → W → List (List ℕ)
+abbrev pub StopsLife : {W : Type 0} → SinkGhosts W → Start → W → W → List (List ℕ)
     → Halt AllocError → Type 0
 StopsLife w start first now lines Write =
     TakesPrefix w.stands first now (conversation start lines)
@@ -76,7 +75,7 @@ StopsLife w start first now lines (Own error) = StopsBefore w start first now li
 
 -- What a sink has taken, behind bytes that a source gave: what is due to all lines that are whole;
 -- at the end of the input the whole conversation.
-abbrev pub life_promise : {W : Type 0} → sink.Ghosts W → Start → W → Promise W AllocError
+abbrev pub life_promise : {W : Type 0} → SinkGhosts W → Start → W → Promise W AllocError
 life_promise w start first =
     record {
       answered = λ now bytes. Takes w.stands first now (talk_of start (whole_lines bytes)).text;

@@ -1,6 +1,5 @@
 -- What a fault is to whoever it is handed on to.
-use Rattle.std.specs.Prelude.{Result, Ok, Err}
-use Rattle.std.specs.declared.alloc.AllocError.{AllocError}
+use Rattle.std.specs.{Prelude.{Result, Ok, Err}, declared.alloc.AllocError.AllocError}
 use Rattle.outside_edge.specs.declared.sink.Failed.{Failed}
 use Rattle.source_server.specs.{declared.{halt.Halt.{Halt, TheVariants.Write}, served.Served.{Served, TheVariants.WriteFault}}}
 use Rattle.text_scan.specs.declared.word_fault.WordFault.{WordFault}

@@ -1,10 +1,8 @@
 -- What a device that lives promises of lines, behind a buffer in front of a sink.
-use Rattle.std.specs.Prelude.{◌≡◌, ◌≤◌, ℕ, List, [], ◌∷◌, length}
-use Rattle.std.specs.declared.alloc.AllocError.{AllocError}
+use Rattle.std.specs.{Prelude.{◌≡◌, ◌≤◌, ℕ, List, [], ◌∷◌, length}, declared.alloc.AllocError.AllocError}
 use Rattle.device_types.specs.TraceFlag.{Flag}
 use Rattle.hmac_core.specs.Hash.{Hash}
-use Rattle.outside_edge.specs.{Buffer.{Buffer, BufferStandsFor}, Calls.Rose, Sink.{Takes, TakesPrefix}}
-use Rattle.outside_edge.specs.declared.sink.Sink as sink
+use Rattle.outside_edge.specs.{Buffer.{Buffer, BufferStandsFor}, Calls.Rose, Sink.{Takes, TakesPrefix}, declared.sink.Sink.Ghosts as SinkGhosts}
 use Rattle.source_server.specs.{Lines.LinePromise, Responder.Moment, Taken.most_input, declared.halt.Halt.{Halt, TheVariants.{Write, Own}}}
 use Rattle.device_trace.specs.Start.{Start}
 use Rattle.device_live.specs.{declared.living.Living.Living, Conversation.talk_of, Living.LivingStandsFor}
@@ -15,7 +13,7 @@ pub record LiveStart (W : Type 0) : Type 0 where
   pub first : Buffer W
 
 -- a buffer as a sink
-abbrev pub buffer_sink : {W : Type 0} → sink.Ghosts W → sink.Ghosts (Buffer W)
+abbrev pub buffer_sink : {W : Type 0} → SinkGhosts W → SinkGhosts (Buffer W)
 buffer_sink w =
     record { stands = BufferStandsFor w.stands; faults = λ buffer. w.faults buffer.sink }
 
@@ -24,7 +22,7 @@ abbrev pub AreFew : List (List ℕ) → Type 0
 AreFew lines = length lines ≤ most_input
 
 -- it is where its lines have led it, and what is due to them went into the buffer
-pub record HasTold {D G W : Type 0} (hash : Hash D) (flag : Flag G) (w : sink.Ghosts W)
+pub record HasTold {D G W : Type 0} (hash : Hash D) (flag : Flag G) (w : SinkGhosts W)
     (at : LiveStart W) (now : Moment (Living D G) (Buffer W)) (lines : List (List ℕ))
     : Type 0 where
   pub stands : LivingStandsFor hash flag now.responder at.start (talk_of at.start lines).life
@@ -34,7 +32,7 @@ pub record HasTold {D G W : Type 0} (hash : Hash D) (flag : Flag G) (w : sink.Gh
 
 -- it stopped at the newest line: the sink failed within its answer, or there was no memory for it,
 -- and what is due to those before it went into the buffer
-abbrev pub StopsTold : {D G W : Type 0} → sink.Ghosts W → LiveStart W
+abbrev pub StopsTold : {D G W : Type 0} → SinkGhosts W → LiveStart W
     → Moment (Living D G) (Buffer W) → List (List ℕ) → Halt AllocError → Type 0
 StopsTold w at now lines Write =
     TakesPrefix (BufferStandsFor w.stands) at.first now.edge (talk_of at.start lines).text
@@ -44,7 +42,7 @@ StopsTold w at now (line ∷ earlier) (Own error) =
     Takes (BufferStandsFor w.stands) at.first now.edge (talk_of at.start earlier).text
 
 -- its count of lines holds those of an input
-abbrev pub live_promise : {D G W : Type 0} → Hash D → Flag G → sink.Ghosts W → LiveStart W
+abbrev pub live_promise : {D G W : Type 0} → Hash D → Flag G → SinkGhosts W → LiveStart W
     → LinePromise (Moment (Living D G) (Buffer W)) AllocError
 live_promise hash flag w at =
     record {

@@ -1,6 +1,5 @@
 -- What a line says to a device that lives.
-use Rattle.std.specs.Prelude.{ℕ, List, Result, Ok, Err, codes, if◌then◌else◌}
-use Rattle.std.specs.Str.{bytes_eq}
+use Rattle.std.specs.{Prelude.{ℕ, List, Result, Ok, Err, codes, if◌then◌else◌}, Str.bytes_eq}
 use Rattle.device_types.specs.declared.event.Event.{Event}
 use Rattle.play_script.specs.Grammar.{happening_of}
 use Rattle.text_scan.specs.{declared.fault_kind.FaultKind.{FaultKind, TheVariants.Word}, Decimal.{decimal_of, long_decimal_of}, Hexadecimal.hex_word_of, Reader.◌>>=◌, Word.{end_of, next_word}}

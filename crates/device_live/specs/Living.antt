@@ -1,10 +1,8 @@
 -- A device that lives as the code has it, and what a call answers of a line.
-use Rattle.std.specs.Prelude.{◌≡◌, ◌≤◌, ◌-◌, ◌++◌, ℕ, List, Some, Result, Ok, Err}
+use Rattle.std.specs.{Prelude.{◌≡◌, ◌≤◌, ◌-◌, ◌++◌, ℕ, List, Some, Result, Ok, Err}, declared.alloc.AllocError.AllocError}
 use Rattle.device_types.specs.{Address.Bytes, declared.event.Event.Event, TraceFlag.Flag}
 use Rattle.hmac_core.specs.Hash.{Hash}
-use Rattle.std.specs.declared.alloc.AllocError.{AllocError}
-use Rattle.outside_edge.specs.{Calls.Rose, Sink.{Takes, TakesPrefix}}
-use Rattle.outside_edge.specs.declared.sink.Sink as sink
+use Rattle.outside_edge.specs.{Calls.Rose, Sink.{Takes, TakesPrefix}, declared.sink.Sink.Ghosts as SinkGhosts}
 use Rattle.play_script.specs.Script.{events_in as events_said, TimedEvent, events_of}
 use Rattle.text_scan.specs.{declared.{fault_kind.FaultKind.FaultKind, word_fault.WordFault.WordFault}}
 use Rattle.text_scan.specs.declared.word_fault.WordFault.TheVariants as words
@@ -75,7 +73,7 @@ TakesHappening hash flag living start life step events (Err (words.Memory error)
 -- What came of a line that is answered so: the answer was put, and the device lives on; it has this
 -- fault, and nothing has changed; a prefix of the answer was put, and the sink has failed; or there
 -- was no memory, and nothing was put.
-abbrev pub AnswersSo : {D G S : Type 0} → Hash D → Flag G → sink.Ghosts S → S → S
+abbrev pub AnswersSo : {D G S : Type 0} → Hash D → Flag G → SinkGhosts S → S → S
     → Living D G → Start → Life → Result Unit LineFault → Result Answer FaultKind → Type 0
 AnswersSo hash flag w old new living start life (Ok tt) (Ok answer) =
     LivingStandsFor hash flag living start answer.life
@@ -91,7 +89,7 @@ AnswersSo hash flag w old new living start life (Err (fault.Write failed)) (Err 
 AnswersSo hash flag w old new living start life (Err (fault.Memory error)) said = new ≡ old
 
 -- and of one with a number, whose fault is told
-abbrev pub AnswersNumbered : {D G S : Type 0} → Hash D → Flag G → sink.Ghosts S → S → S
+abbrev pub AnswersNumbered : {D G S : Type 0} → Hash D → Flag G → SinkGhosts S → S → S
     → Living D G → Start → Life → Result Answer FaultKind → Result Unit (Halt AllocError) → Type 0
 AnswersNumbered hash flag w old new living start life answer (Ok tt) =
     let said : Answer = or_refusal life living.lines answer in

@@ -1,6 +1,5 @@
 -- Bytes of a register that was written.
-use Rattle.std.proofs.Common.{◌≡◌, ℕ, ◌<◌, ◌+◌, ◌%◌, ◌/◌, List, [], ◌∷◌, arith}
-use Rattle.std.proofs.lemmas.Bool.Decides.{nat_tests}
+use Rattle.std.proofs.{Common.{◌≡◌, ℕ, ◌<◌, ◌+◌, ◌%◌, ◌/◌, List, [], ◌∷◌, arith}, lemmas.Bool.Decides.nat_tests}
 use Rattle.word_arith.specs.{declared.size.Size.{Size, TheVariants.{Byte, Word}}}
 use Rattle.part_definitions.specs.PeripheralRegister.{RegisterWrite, register_byte, register_word, byte_put}
 

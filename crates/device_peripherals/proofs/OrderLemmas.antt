@@ -1,6 +1,5 @@
 -- Bytes keep their order, event by event.
-use Rattle.std.proofs.Common.{List, [], ◌∷◌, arith, refl}
-use Rattle.std.proofs.lemmas.Grind.{common_steps}
+use Rattle.std.proofs.{Common.{List, [], ◌∷◌, arith, refl}, lemmas.Grind.common_steps}
 use Rattle.part_definitions.specs.Serial.{SerialEvent, Arrival, Load, Store, DeviceReset}
 use Rattle.device_peripherals.specs.Order.{KeepsOrder}
 

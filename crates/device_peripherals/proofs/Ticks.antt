@@ -1,9 +1,8 @@
 -- Count and flag of a timer before its count comes to 0 again.
-use Rattle.std.proofs.{Common.{◌≡◌, ◌<◌, ◌≤◌, ◌+◌, ◌-◌, ◌==◌, ℕ, zero, suc, Bool, List, ◌∷◌, true, false, min, if◌then◌else◌, arith, ◌∙◌, refl, sym, ap, ◌%◌, ◌&&◌, ◌||◌, add-one}, lemmas.Bool.{eqb-true, Decides.nat_tests}, Math.Nat.{mod-eq_of_lt, suc-mod, mod_self}}
+use Rattle.std.{proofs.{Common.{◌≡◌, ◌<◌, ◌≤◌, ◌+◌, ◌-◌, ◌==◌, ℕ, zero, suc, Bool, List, ◌∷◌, true, false, min, if◌then◌else◌, arith, ◌∙◌, refl, sym, ap, ◌%◌, ◌&&◌, ◌||◌, add-one}, lemmas.Bool.{eqb-true, Decides.nat_tests}, Math.Nat.{mod-eq_of_lt, suc-mod, mod_self}}, specs.List.list_any}
 use Rattle.word_arith.specs.Number.{bit_of}
 use Rattle.part_definitions.specs.Timer.{TimerEvent, Tick, timer_runs, timer_writes, timer_count, timer_compare, timer_flag, timer_requests, timer_control, steps_of_count, timer_period, ends_period, distances}
 use Rattle.device_peripherals.specs.Timer.{with_ticks, ticks_before_zero}
-use Rattle.std.specs.List.{list_any}
 
 -- Remainders of a number and of the next.
 

@@ -1,8 +1,5 @@
 -- A transfer that was started, and its accesses.
-use Rattle.std.proofs.Common.{◌≡◌, ℕ, ◌<◌, ◌+◌, ◌*◌, ◌++◌, true, false, List, [], ◌∷◌, length, Some, None, arith, ap, sym, subst, refl, ◌∙◌, inl, inr, is_some, if◌then◌else◌}
-use Rattle.std.specs.List.{list_any}
-use Rattle.std.proofs.lemmas.Bool.{cases_Bool, true≢false}
-use Rattle.std.proofs.lemmas.Bool.Decides.{nat_tests}
+use Rattle.std.{proofs.{Common.{◌≡◌, ℕ, ◌<◌, ◌+◌, ◌*◌, ◌++◌, true, false, List, [], ◌∷◌, length, Some, None, arith, ap, sym, subst, refl, ◌∙◌, inl, inr, is_some, if◌then◌else◌}, lemmas.Bool.{cases_Bool, true≢false, Decides.nat_tests}}, specs.List.list_any}
 use Rattle.part_definitions.specs.{PeripheralRegister.register_word, Dma.{DmaEvent, TransferStart, Store, DmaAccess, DeviceReset, Transfer, transfer_of, transfer_access, access_at, dma_access, dma_word, DMA_CONTROL, is_active, after_start, starts, dma_writes, DMA_SOURCE, DMA_DESTINATION, DMA_LENGTH, after_access, new_transfer, place_of_word, latch}}
 use Rattle.word_arith.specs.{declared.size.Size.{Size, TheVariants.Word}}
 use Rattle.device_types.specs.{declared.access.Access.{Access, TheVariants.{Read, Write}}}

@@ -1,6 +1,5 @@
 -- A transfer by the steps since its start: no counter, but the list of what happened since.
-use Rattle.std.specs.Prelude.{◌≡◌, ◌<◌, ◌+◌, ◌*◌, ◌++◌, ℕ, Bool, true, false, List, [], ◌∷◌, length, if◌then◌else◌, is_some, Option, Some, None}
-use Rattle.std.specs.List.{list_any}
+use Rattle.std.specs.{Prelude.{◌≡◌, ◌<◌, ◌+◌, ◌*◌, ◌++◌, ℕ, Bool, true, false, List, [], ◌∷◌, length, if◌then◌else◌, is_some, Option, Some, None}, List.list_any}
 use Rattle.word_arith.specs.declared.size.Size.TheVariants.{Word}
 use Rattle.device_types.specs.{declared.access.Access.{Access, TheVariants.{Read, Write}}}
 use Rattle.part_definitions.specs.{PeripheralRegister.register_word, Dma.{DmaEvent, TransferStart, Store, DmaAccess, DeviceReset, DMA_SOURCE, DMA_DESTINATION, DMA_LENGTH, starts, dma_writes, dma_access, dma_word, DMA_CONTROL, place_of_word, latch}}

@@ -1,10 +1,9 @@
 -- What a watcher says of a play goes on from what it says of the steps before.
-use Rattle.std.proofs.{Common.{◌≡◌, ◌++◌, ◌∷◌, ◌∙◌, ℕ, List, true, false, refl, ap, sym, append_assoc}, lemmas.Bool.false≢true}
+use Rattle.std.{proofs.{Common.{◌≡◌, ◌++◌, ◌∷◌, ◌∙◌, ℕ, List, true, false, refl, ap, sym, append_assoc}, lemmas.Bool.false≢true}, specs.Prelude.{◌&&◌, [], Option, Some, None, is_none, length}}
 use Rattle.device_types.specs.{declared.{event.Event.Event, bus_record.BusRecord.BusRecord, rule.Rule.Rule}, Report.ReportFields}
 use Rattle.device_trace.specs.{Trace.{Play, trace, logs_after}, Start.Start, Text.{lines_of, lines_of_step, byte_sent_in, last_byte_sent, last_decision, last_report, report_in, report_where, denial_where, some_line}, Logs.Logs, Step.next_record}
 use Rattle.trace_files.specs.{WaveText.{header, steps_text}, TraceText.{trace_lines, trace_text}, WaveSamples.wave_samples}
 use Rattle.device_play.specs.{Account.GoesOn, Accounts.{change_text, dump_account, line_account, trace_account, wave_account}}
-use Rattle.std.specs.Prelude.{◌&&◌, [], Option, Some, None, is_none, length}
 use Rattle.printed_lines.specs.Line.{sent_line, reset_line, report_line, denied_line}
 use Rattle.device_core.specs.Silence.{last_rule, is_silent}
 

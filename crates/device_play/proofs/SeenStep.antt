@@ -1,6 +1,5 @@
 -- A watcher that was shown a step, and only writes.
-use Rattle.std.proofs.Common.{◌≡◌, ◌∷◌, List, Result, Ok, Err}
-use Rattle.std.specs.Prelude.{IsErrAnd}
+use Rattle.std.{proofs.Common.{◌≡◌, ◌∷◌, List, Result, Ok, Err}, specs.Prelude.IsErrAnd}
 use Rattle.device_types.specs.{Address.Bytes, declared.event.Event.Event}
 use Rattle.outside_edge.specs.Sink.{Takes, TakesPrefix}
 use Rattle.device_trace.specs.{Trace.Play, Start.Start}

@@ -1,14 +1,12 @@
 -- What a device tells of its last step is the line of that step.
-use Rattle.std.proofs.Common.{◌≡◌, ◌≤◌, ◌∙◌, [], ◌∷◌, ℕ, suc, Bool, true, false, List, Option, Some, None, Ok, Result, option_map, refl, sym, ap, subst, length, arith}
+use Rattle.std.{proofs.Common.{◌≡◌, ◌≤◌, ◌∙◌, [], ◌∷◌, ℕ, suc, Bool, true, false, List, Option, Some, None, Ok, Result, option_map, refl, sym, ap, subst, length, arith}, specs.Option.option_or}
 use Rattle.device_types.specs.{declared.{access.Access.{Access, TheVariants.{Fetch, Read, Write}}, bounds.Bounds.Bounds, bus_record.BusRecord.BusRecord, event.Event.Event, rule.Rule.{Rule, TheVariants.X0}, signals.Signals.Signals}}
 use Rattle.outside_edge.specs.Sink.{Puts}
-use Rattle.std.specs.Option.{option_or}
 use Rattle.part_definitions.specs.FirstRule.{first_rule, rule_where}
 use Rattle.device_trace.specs.{Trace.{Play, last_bounds, last_record, last_signals, logs_after, next_logs, trace}, Blank.{blank_value, blank_record, touches_secrets}, Logs.{Logs, exec_of, logged_bounds, with_events}, Signals.{proposed_access, signals_at, signals_of, step_kind, value_read, word_fetched}, Start.Start, Step.{access_recorded, asks_reset, next_record, next_signals, record_of}}
 use Rattle.device_core.specs.Silence.{last_refused, where_refused}
 use Rattle.key_isolation.proofs.Bytes.{zero_either}
-use Rattle.trace_files.specs.{declared.trace_line.TraceLine.TraceLine, LineText.trace_line, LineReadBack.{ArePrintable, IsPrintable}, LineGrammar.trace_of, TraceText.{last_line, next_line, trace_lines, trace_text, word_shown}}
-use Rattle.trace_files.proofs.LineReadBack.{file_reads_back}
+use Rattle.trace_files.{specs.{declared.trace_line.TraceLine.TraceLine, LineText.trace_line, LineReadBack.{ArePrintable, IsPrintable}, LineGrammar.trace_of, TraceText.{last_line, next_line, trace_lines, trace_text, word_shown}}, proofs.LineReadBack.file_reads_back}
 use Rattle.device_play.specs.{Accounts.trace_account, Limit.most_steps, TraceLine.{proposal_shown, value_shown, word_read}}
 
 -- the word that a line shows goes by where the access is, which a record keeps

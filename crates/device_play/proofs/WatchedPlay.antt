@@ -1,23 +1,19 @@
 -- A play before a watcher: what was said of the steps so far, and what is still to come.
-use Rattle.std.proofs.{Common.{◌≡◌, ◌≤◌, ◌<◌, ◌+◌, ◌-◌, ◌++◌, ◌∙◌, [], ℕ, zero, suc, Bool, List, Result, Ok, Err, refl, sym, ap, subst, arith, append_assoc, append-nil, true, false, ◌∷◌, length, ⊎_elim, Some}, lemmas.Bool.{cases_lt, false_from_ne_true, false≢true}}
-use Rattle.std.specs.Prelude.{Contains, IsErrAnd}
+use Rattle.std.{proofs.{Common.{◌≡◌, ◌≤◌, ◌<◌, ◌+◌, ◌-◌, ◌++◌, ◌∙◌, [], ℕ, zero, suc, Bool, List, Result, Ok, Err, refl, sym, ap, subst, arith, append_assoc, append-nil, true, false, ◌∷◌, length, ⊎_elim, Some}, lemmas.Bool.{cases_lt, false_from_ne_true, false≢true}}, specs.Prelude.{Contains, IsErrAnd}}
 use Rattle.device_types.specs.{Address.{Bytes, Contents}, declared.{event.Event.Event, bounds.Bounds.Bounds}, TraceFlag.Flag, Report.ReportFields, ExecFlag.SeenHistory}
 use Rattle.hmac_core.specs.Hash.{Hash}
-use Rattle.outside_edge.specs.Sink.{Takes, TakesPrefix}
-use Rattle.outside_edge.proofs.SinkLemmas.{prefix_after, prefix_of_more, takes_both}
+use Rattle.outside_edge.{specs.Sink.{Takes, TakesPrefix}, proofs.SinkLemmas.{prefix_after, prefix_of_more, takes_both}}
 use Rattle.device_trace.specs.{Trace.{Play, play_of, trace}, Start.{Start, with_key}, RegionRun.{TrustedRun, WholeRun}, Text.last_report}
 use Rattle.play_script.specs.declared.playback.Playback.{Playback}
-use Rattle.device_core.specs.{Device.{LiveStandsFor, steps_made}, Quiet.Question, declared.live.Live.Live, Silence.{OfEach, is_silent, with_idle}}
+use Rattle.device_core.{specs.{Device.{LiveStandsFor, steps_made}, Quiet.Question, declared.live.Live.Live, Silence.{OfEach, is_silent, with_idle}}, proofs.Outside.keeps-counter}
 use Rattle.device_play.specs.{Account.{Account, GoesOn, IsPassed, whole_text}, Cuts.TakesOneOf, Midway.{HasGoneOn, IsMidway}, Watching.{HasSeen, IsShown, IsWatched}, declared.put_fault.PutFault.{PutFault, TheVariants.{Write, Memory}}, PlayLaws.{IsLawfulReport, IsLawfulMoment, KeepsKeyHidden, ObeysLaws}}
 use Rattle.part_definitions.specs.{Hmac.Digest, Request.ATTESTS}
 use Rattle.trace_facts.proofs.{NeverBroken.trace-names_neither, LastReport.last_report-made, SoundPlay.trace-in_call}
 use Rattle.key_isolation.proofs.TwoKeys.{looks_keyless}
-use Rattle.mac_coverage.specs.Coverage.{IsDeviceKey, IsOfBytes, MacCoversCall}
-use Rattle.mac_coverage.proofs.Plays.{last_report-finishes, mac_covers_call, some_same}
+use Rattle.mac_coverage.{specs.Coverage.{IsDeviceKey, IsOfBytes, MacCoversCall}, proofs.Plays.{last_report-finishes, mac_covers_call, some_same}}
 use Rattle.proof_of_execution.proofs.Plays.{decision-whole_run}
 use Rattle.request_freshness.proofs.Reports.{report-new}
 use Rattle.trusted_execution.proofs.StillTime.{decision-trusted_run}
-use Rattle.device_core.proofs.Outside.{keeps-counter}
 
 -- A play obeys the laws of the device.
 

@@ -1,9 +1,7 @@
 -- A call that puts text and may run out of memory: what it put, and what it counted.
-use Rattle.std.proofs.{Common.{◌≡◌, ◌≤◌, ◌⊎◌, [], ℕ, List, Result, Ok, Err, inl, refl, arith, append-nil, ◌∙◌, ◌++◌, ◌∷◌, Bool, true, ap, sym}, Math.ListN.get_or-map, lemmas.List.{length-map, Elements.Contains-push}}
-use Rattle.std.specs.Prelude.{IsErrAnd, Contains, if◌then◌else◌}
-use Rattle.outside_edge.specs.{Calls.Rose, Sink.{TakesPrefix, Puts, Takes}}
+use Rattle.std.{proofs.{Common.{◌≡◌, ◌≤◌, ◌⊎◌, [], ℕ, List, Result, Ok, Err, inl, refl, arith, append-nil, ◌∙◌, ◌++◌, ◌∷◌, Bool, true, ap, sym}, Math.ListN.get_or-map, lemmas.List.{length-map, Elements.Contains-push}}, specs.Prelude.{IsErrAnd, Contains, if◌then◌else◌}}
+use Rattle.outside_edge.{specs.{Calls.Rose, Sink.{TakesPrefix, Puts, Takes}}, proofs.SinkLemmas.takes_both}
 use Rattle.device_play.specs.{declared.put_fault.PutFault.{PutFault, TheVariants.{Write, Memory}}, Cuts.{CountsWriteFaults, behind, TakesOneOf, StopsOnlyAt}}
-use Rattle.outside_edge.proofs.SinkLemmas.{takes_both}
 
 -- A text of which nothing was put.
 

@@ -1,8 +1,6 @@
 -- Each access is made by a place and a size that clear bit 0 of a word's place, so it is well
 -- formed.
-use Rattle.std.proofs.Common.{◌≡◌, ◌/◌, ◌%◌, ℕ, zero, suc, List, [], ◌∷◌, length, Bool, Option, Some, None, IfSome, All, arith, ◌==◌}
-use Rattle.std.proofs.lemmas.Bool.{cond_both}
-use Rattle.std.proofs.Math.Nat.{mul-mod_left}
+use Rattle.std.proofs.{Common.{◌≡◌, ◌/◌, ◌%◌, ℕ, zero, suc, List, [], ◌∷◌, length, Bool, Option, Some, None, IfSome, All, arith, ◌==◌}, lemmas.Bool.cond_both, Math.Nat.mul-mod_left}
 use Rattle.word_arith.specs.{declared.size.Size.{Size, TheVariants.{Byte, Word}}}
 use Rattle.msp_decode.specs.{declared.head.Head.Head, Head.head_of}
 use Rattle.device_types.specs.{Access.{IsFormed, without_number}, declared.{access.Access.{Access, TheVariants.{Fetch, Read, Write}}, event.Event.Event, bounds.Bounds.Bounds, kind.Kind.{Kind, TheVariants.{Boot, Cpu, Idle, Irq, Rom}}, rule.Rule.Rule}, Map.{RESET_VECTOR, mac_region}}

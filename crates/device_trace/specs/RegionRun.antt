@@ -1,7 +1,6 @@
 -- A run of the executable region: what the EXEC flag is to prove (APEX), and, with interrupts that
 -- are trusted, the second flag (in the manner of ASAP).
-use Rattle.std.specs.Prelude.{◌≡◌, ◌==◌, ◌&&◌, ◌++◌, Bool, false, not, List, [], ◌∷◌, is_none, IsTrue}
-use Rattle.std.specs.List.{list_any, list_all}
+use Rattle.std.specs.{Prelude.{◌≡◌, ◌==◌, ◌&&◌, ◌++◌, Bool, false, not, List, [], ◌∷◌, is_none, IsTrue}, List.{list_any, list_all}}
 use Rattle.device_types.specs.{Kind.is_irq, Map.{lies_in, some_touches, metadata_region, vector_region}, declared.{bus_record.BusRecord.BusRecord, bounds.Bounds.Bounds}, Bounds.{are_valid, executable_region, output_region}, ExecFlag.{accesses_in, writes_to, fetches_outside, fetches_first}}
 use Rattle.part_definitions.specs.TrustedFlag.{enters_elsewhere}
 

@@ -1,6 +1,5 @@
 -- The record of a step.
-use Rattle.std.specs.Prelude.{ℕ, Bool, true, false, List, Option, Some, None}
-use Rattle.std.specs.List.{list_any}
+use Rattle.std.specs.{Prelude.{ℕ, Bool, true, false, List, Option, Some, None}, List.list_any}
 use Rattle.device_types.specs.{declared.{access.Access.Access, bus_record.BusRecord.BusRecord, event.Event.{Event, TheVariants.Reset}, rule.Rule.Rule, signals.Signals.Signals}, Access.without_number, ExecFlag.last_pc}
 use Rattle.part_definitions.specs.{FirstRule.first_rule, Memory.{byte_at, memory_read, with_access}, CpuRegister.Registers}
 use Rattle.device_trace.specs.{Logs.{Logs, flags_of, with_events}, Progress.last_registers, Signals.{value_read, signals_of}, Start.Start}

@@ -1,6 +1,5 @@
 -- The memory map: regions of addresses, and what an access touches.
-use Rattle.std.specs.Prelude.{◌&&◌, ◌+◌, ◌-◌, ℕ, Bool, false, Option, Some, None, nat_le}
-use Rattle.std.specs.List.{list_any, list_all}
+use Rattle.std.specs.{Prelude.{◌&&◌, ◌+◌, ◌-◌, ℕ, Bool, false, Option, Some, None, nat_le}, List.{list_any, list_all}}
 use Rattle.device_types.specs.{declared.{region.Region.Region, access.Access.Access}, Access.bytes_of}
 
 -- the registers of the peripherals

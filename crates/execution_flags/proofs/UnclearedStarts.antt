@@ -1,8 +1,7 @@
 -- The flag is set exactly where there is an uncleared start: by induction on the records seen.
-use Rattle.std.proofs.{Common.{◌≡◌, ◌≤◌, ◌+◌, ◌||◌, ◌++◌, ℕ, Bool, true, false, not, List, [], ◌∷◌, Option, length, IsTrue, ◌↔◌, sym, ◌∙◌, ap, inl, inr, refl, arith, ◌==◌, ◌&&◌, if◌then◌else◌}, lemmas.Bool.{and_parts, or_cases, and_from, or_left, or_right, not-true, not_from_false, false_from_ne_true, both_ways}, Math.Bool.{and-true, and-false, or_comm}}
+use Rattle.std.{proofs.{Common.{◌≡◌, ◌≤◌, ◌+◌, ◌||◌, ◌++◌, ℕ, Bool, true, false, not, List, [], ◌∷◌, Option, length, IsTrue, ◌↔◌, sym, ◌∙◌, ap, inl, inr, refl, arith, ◌==◌, ◌&&◌, if◌then◌else◌}, lemmas.Bool.{and_parts, or_cases, and_from, or_left, or_right, not-true, not_from_false, false_from_ne_true, both_ways}, Math.Bool.{and-true, and-false, or_comm}}, specs.List.list_any}
 use Rattle.device_types.specs.{ExecFlag.{SeenRecord, starts_run, last_pc, is_set, is_opcode_fetch, records_since}, Bounds.are_valid}
 use Rattle.execution_flags.specs.UnclearedStart.{Moment, UnclearedStart}
-use Rattle.std.specs.List.{list_any}
 
 -- How a flag of a run changes at a record, whichever records clear it.
 

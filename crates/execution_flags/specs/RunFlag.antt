@@ -1,6 +1,5 @@
 -- A flag of a run, and which records it stands for having seen.
-use Rattle.std.specs.Prelude.{◌≡◌, Bool, refl}
-use Rattle.std.proofs.Common.{◌∙◌, sym}
+use Rattle.std.{specs.Prelude.{◌≡◌, Bool, refl}, proofs.Common.{◌∙◌, sym}}
 use Rattle.device_types.specs.{ExecFlag.{SeenHistory, is_set, exec, clears}, TraceFlag.Flag}
 use Rattle.execution_flags.specs.declared.run_flag.RunFlag.{RunFlag}
 use Rattle.part_definitions.specs.TrustedFlag.{aux, clears_aux}

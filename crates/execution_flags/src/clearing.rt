@@ -1,5 +1,4 @@
-ghost use Rattle.std.specs.Prelude.{◌≡◌, option_to_list};
-ghost use Rattle.std.specs.List.{list_any};
+ghost use Rattle.std.specs.{Prelude.{◌≡◌, option_to_list}, List.list_any};
 ghost use Rattle.device_types.specs.ExecFlag.{accesses_in, writes_to, fetches_outside, runs_inside, ran_inside, enters_region, clears, clears_both, clears_e1, clears_e2, clears_e3, clears_e4, clears_e5, clears_e6, clears_e7, clears_e8, clears_e9};
 
 use device_types::{Access, Bounds, BusRecord, META, Region, some_touches, some_writes};

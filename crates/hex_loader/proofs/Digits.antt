@@ -1,14 +1,6 @@
 -- The bytes of a record's digits, of which there are at most 260.
-use Rattle.std.proofs.Common.{◌≡◌, ◌≢◌, ◌<◌, ◌+◌, ◌*◌, ◌/◌, ◌%◌, ℕ, Bool, true, false, cond, List, length, get_or, min, Result, Ok, Err, refl, sym, ◌∙◌, arith, inl, inr}
-use Rattle.std.specs.Prelude.{MatchResult}
-use Rattle.std.specs.List.{list_all}
-use Rattle.std.specs.Char.{is_ascii_hexdigit}
-use Rattle.std.proofs.Math.Nat.{min-eq_left}
-use Rattle.std.proofs.lemmas.Bool.{cases_lt}
-use Rattle.std.proofs.lemmas.Bool.Decides.{eqb_tells}
-use Rattle.hex.specs.declared.error.FromHexError.{FromHexError}
-use Rattle.hex.specs.Hex.{decode_sized, IsBytes}
-use Rattle.hex.proofs.HexLemmas.{decode_sized-ok, decode_sized-twice, decode_of-ok}
+use Rattle.std.{proofs.{Common.{◌≡◌, ◌≢◌, ◌<◌, ◌+◌, ◌*◌, ◌/◌, ◌%◌, ℕ, Bool, true, false, cond, List, length, get_or, min, Result, Ok, Err, refl, sym, ◌∙◌, arith, inl, inr}, Math.Nat.min-eq_left, lemmas.Bool.{cases_lt, Decides.eqb_tells}}, specs.{Prelude.MatchResult, List.list_all, Char.is_ascii_hexdigit}}
+use Rattle.hex.{specs.{declared.error.FromHexError.FromHexError, Hex.{decode_sized, IsBytes}}, proofs.HexLemmas.{decode_sized-ok, decode_sized-twice, decode_of-ok}}
 use Rattle.text_scan.specs.{declared.fault_kind.FaultKind.{FaultKind, TheVariants.{Digit, Count}}, Hexadecimal.{or_count, hex_bytes_of}}
 use Rattle.hex_loader.specs.HexRecord.{record_of_bytes, record_or_fault}
 

@@ -1,11 +1,7 @@
 -- What stands in an image are bytes.
-use Rattle.std.proofs.Common.{◌≡◌, ◌<◌, ◌+◌, ◌*◌, ◌/◌, ◌%◌, ◌||◌, ◌==◌, ℕ, Bool, true, false, reverse, sum, zero, suc, List, [], ◌∷◌, length, take, drop, slice_index, Option, Some, None, unwrap_or, Result, Ok, Err, refl, arith, if◌then◌else◌, IfSome}
-use Rattle.std.specs.Option.{option_or}
-use Rattle.std.specs.Result.{result_unwrap_or}
-use Rattle.std.specs.Str.Lines.{lines}
+use Rattle.std.{proofs.Common.{◌≡◌, ◌<◌, ◌+◌, ◌*◌, ◌/◌, ◌%◌, ◌||◌, ◌==◌, ℕ, Bool, true, false, reverse, sum, zero, suc, List, [], ◌∷◌, length, take, drop, slice_index, Option, Some, None, unwrap_or, Result, Ok, Err, refl, arith, if◌then◌else◌, IfSome}, specs.{Option.option_or, Result.result_unwrap_or, Str.Lines.lines}}
 use Rattle.hex.specs.Hex.{IsBytes}
-use Rattle.text_scan.specs.{declared.{fault_at.FaultAt.FaultAt, fault_kind.FaultKind.FaultKind}, Hexadecimal.hex_bytes_of, Reader.value_or_fault}
-use Rattle.text_scan.proofs.HexBytes.{hex_bytes_of-ok}
+use Rattle.text_scan.{specs.{declared.{fault_at.FaultAt.FaultAt, fault_kind.FaultKind.FaultKind}, Hexadecimal.hex_bytes_of, Reader.value_or_fault}, proofs.HexBytes.hex_bytes_of-ok}
 use Rattle.mem_map.specs.Image.{byte_among}
 use Rattle.hex_loader.specs.{HexImage.{byte_placed, last_byte_placed, base_after, hex_byte, hex_fault, image_of}, HexRecord.{Meaning, Places, EndOfFile, SetsBase, Starts, with_count, record_of_type, record_of_bytes, record_or_fault, record_in, big_endian}}
 

@@ -1,6 +1,5 @@
 -- Places that bytes are placed at, one after the other.
-use Rattle.std.proofs.Common.{◌≡◌, ◌<◌, ◌+◌, ℕ, suc, length, drop, drop-cons, add-one, sym, ap, ◌∙◌, Bool, true, false, List, refl}
-use Rattle.std.specs.Prelude.{◌&&◌}
+use Rattle.std.{proofs.Common.{◌≡◌, ◌<◌, ◌+◌, ℕ, suc, length, drop, drop-cons, add-one, sym, ap, ◌∙◌, Bool, true, false, List, refl}, specs.Prelude.◌&&◌}
 use Rattle.part_definitions.specs.Memory.{is_image_place}
 use Rattle.hex_loader.specs.HexImage.{are_image_places}
 

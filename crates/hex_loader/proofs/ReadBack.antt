@@ -1,14 +1,10 @@
 -- The text of an image is read as that image.
-use Rattle.std.proofs.{Common.{◌≡◌, ◌∙◌, ◌≤◌, ◌<◌, ◌+◌, ◌-◌, ◌%◌, ◌⊎◌, ℕ, zero, suc, Bool, true, false, cond, List, [], ◌∷◌, ◌++◌, length, reverse, append_assoc, zero-add, Option, Some, None, Ok, refl, sym, ap, arith, inl, inr, codes, ◌*◌, ◌/◌, eqb, length-append, take, drop, sum, Result, Err, get_or}, lemmas.{Bool.{cases_lt, leb-true, eq-eqb}, List.{append-nil, Sums.{sum_by-append, AllPass-from_list_all}}}, Math.Seq.take-append_seam}
-use Rattle.std.specs.{Prelude.{IsSome, ◌&&◌, ◌||◌, nat_le}, Option.option_or, Str.Lines.lines, List.list_all, Char.is_ascii_hexdigit}
-use Rattle.hex.specs.Hex.{decode_pairs, encode_upper, IsBytes, upper_digits, decode_sized, encode_with}
+use Rattle.std.{proofs.{Common.{◌≡◌, ◌∙◌, ◌≤◌, ◌<◌, ◌+◌, ◌-◌, ◌%◌, ◌⊎◌, ℕ, zero, suc, Bool, true, false, cond, List, [], ◌∷◌, ◌++◌, length, reverse, append_assoc, zero-add, Option, Some, None, Ok, refl, sym, ap, arith, inl, inr, codes, ◌*◌, ◌/◌, eqb, length-append, take, drop, sum, Result, Err, get_or}, lemmas.{Bool.{cases_lt, leb-true, eq-eqb}, List.{append-nil, Sums.{sum_by-append, AllPass-from_list_all}}}, Math.Seq.take-append_seam}, specs.{Prelude.{IsSome, ◌&&◌, ◌||◌, nat_le}, Option.option_or, Str.Lines.lines, List.list_all, Char.is_ascii_hexdigit}}
+use Rattle.hex.{specs.Hex.{decode_pairs, encode_upper, IsBytes, upper_digits, decode_sized, encode_with}, proofs.HexLemmas.{decode_sized-twice, decode_of-encode_upper, length-encode_with}}
 use Rattle.part_definitions.specs.Memory.{is_image_place}
-use Rattle.hex_loader.specs.{HexRecord.{Places, EndOfFile, record_in, Meaning, record_of_bytes, record_of_type, record_or_fault, big_endian}, HexImage.{base_after, has_ended, last_byte_placed, are_image_places, first_fault}, HexText.{is_record_start, record_bytes, data_line, line_at, lines_below, end_line, hex_text, check_of, data_record}, ReadBack.IsReadBack}
+use Rattle.hex_loader.{specs.{HexRecord.{Places, EndOfFile, record_in, Meaning, record_of_bytes, record_of_type, record_or_fault, big_endian}, HexImage.{base_after, has_ended, last_byte_placed, are_image_places, first_fault}, HexText.{is_record_start, record_bytes, data_line, line_at, lines_below, end_line, hex_text, check_of, data_record}, ReadBack.IsReadBack}, proofs.Runs.{run-sound, run-short, run-bytes, run-places, byte_among-some, is_covered}}
 use Rattle.mem_map.specs.{Image.byte_among, ImagePlace.IsImage}
-use Rattle.hex_loader.proofs.Runs.{run-sound, run-short, run-bytes, run-places, byte_among-some, is_covered}
-use Rattle.hex.proofs.HexLemmas.{decode_sized-twice, decode_of-encode_upper, length-encode_with}
-use Rattle.text_scan.specs.{declared.fault_kind.FaultKind.{FaultKind, TheVariants.{Count, Check}}, Hexadecimal.hex_bytes_of}
-use Rattle.text_scan.proofs.{PlainWords.encoded_pass, FirstLine.lines-line}
+use Rattle.text_scan.{specs.{declared.fault_kind.FaultKind.{FaultKind, TheVariants.{Count, Check}}, Hexadecimal.hex_bytes_of}, proofs.{PlainWords.encoded_pass, FirstLine.lines-line}}
 use mathlib.Core.List.{reverse_aux}
 
 -- A record that was written is read.

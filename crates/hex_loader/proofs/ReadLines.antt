@@ -1,6 +1,5 @@
 -- A text that is read line by line.
-use Rattle.std.proofs.Common.{◌≡◌, ◌∙◌, ◌+◌, ℕ, true, false, List, [], ◌∷◌, length, reverse, Some, None, refl, sym, ap, arith}
-use Rattle.std.specs.Str.Lines.{lines}
+use Rattle.std.{proofs.Common.{◌≡◌, ◌∙◌, ◌+◌, ℕ, true, false, List, [], ◌∷◌, length, reverse, Some, None, refl, sym, ap, arith}, specs.Str.Lines.lines}
 use mathlib.Core.List.{reverse_aux}
 use Rattle.mem_map.specs.Image.{byte_in}
 use Rattle.text_scan.specs.{declared.{fault_at.FaultAt.FaultAt, fault_kind.FaultKind.{FaultKind, TheVariants.NoEnd}}, LineFold.numbered_lines}

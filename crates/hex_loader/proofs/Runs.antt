@@ -1,8 +1,5 @@
 -- Which places the runs of an image cover.
-use Rattle.std.proofs.Common.{◌≡◌, ◌∙◌, ◌≤◌, ◌<◌, ◌+◌, ◌-◌, ◌%◌, ◌⊎◌, ℕ, zero, suc, Bool, true, false, eqb, List, [], ◌∷◌, length, Option, Some, None, refl, ap, arith, inl, inr}
-use Rattle.std.specs.Prelude.{is_none, IsSome, ◌||◌}
-use Rattle.std.proofs.lemmas.Bool.{and_from, cases_lt}
-use Rattle.std.proofs.lemmas.Bool.Decides.{eqb_tells}
+use Rattle.std.{proofs.{Common.{◌≡◌, ◌∙◌, ◌≤◌, ◌<◌, ◌+◌, ◌-◌, ◌%◌, ◌⊎◌, ℕ, zero, suc, Bool, true, false, eqb, List, [], ◌∷◌, length, Option, Some, None, refl, ap, arith, inl, inr}, lemmas.Bool.{and_from, cases_lt, Decides.eqb_tells}}, specs.Prelude.{is_none, IsSome, ◌||◌}}
 use Rattle.hex.specs.Hex.{IsBytes}
 use Rattle.part_definitions.specs.Memory.{is_image_place}
 use Rattle.mem_map.specs.{Image.byte_among, ImagePlace.IsImage}

@@ -1,6 +1,5 @@
 -- The byte of a memory at a place.
-use Rattle.std.proofs.Common.{◌≡◌, ◌+◌, ◌-◌, ℕ, suc, zero, Bool, true, false, List, Some, None, cond, refl, arith}
-use Rattle.std.specs.Prelude.{◌&&◌, ◌||◌, nat_le, slice_get}
+use Rattle.std.{proofs.Common.{◌≡◌, ◌+◌, ◌-◌, ℕ, suc, zero, Bool, true, false, List, Some, None, cond, refl, arith}, specs.Prelude.{◌&&◌, ◌||◌, nat_le, slice_get}}
 use Rattle.part_definitions.specs.Memory.{PowerOn, ShownFlags, MemoryWrite, byte_at, bytes_from, is_ram, is_program, is_image_place}
 use Rattle.hex_loader.specs.MemoryImage.{image_of}
 

@@ -1,6 +1,4 @@
-ghost use Rattle.std.specs.Prelude.{◌≡◌, ◌+◌, ◌∷◌, ◌==◌, ◌<◌, ◌^◌, ◌&&◌, ℕ, true, false, List, Some, None, length, IfErr, IfOk, OnOk, if◌then◌else◌};
-ghost use Rattle.std.specs.Option.{option_or};
-ghost use Rattle.std.specs.Result.{result_err};
+ghost use Rattle.std.specs.{Prelude.{◌≡◌, ◌+◌, ◌∷◌, ◌==◌, ◌<◌, ◌^◌, ◌&&◌, ℕ, true, false, List, Some, None, length, IfErr, IfOk, OnOk, if◌then◌else◌}, Option.option_or, Result.result_err};
 ghost use Rattle.part_definitions.specs.Memory.{is_image_place};
 ghost use Rattle.mem_map.specs.Image.{byte_in, byte_among};
 ghost use Rattle.text_scan.specs.{declared.fault_at.FaultAt.FaultAt, Reader.{Reads, value_as}};
@@ -91,8 +89,7 @@ pub struct Reader {
 }
 
 impl Reader {
-    ghost use Rattle.std.specs.Prelude.{◌≡◌, ◌∷◌, ℕ, List, Ok, OnOk};
-    ghost use Rattle.std.specs.Result.{result_err};
+    ghost use Rattle.std.specs.{Prelude.{◌≡◌, ◌∷◌, ℕ, List, Ok, OnOk}, Result.result_err};
     ghost use Rattle.hex_loader.specs.{HexRecord.{meaning, record_in}, HexImage.{base_after, record_fault, line_fault, ReaderStandsFor}};
 
     // Does what a record says.

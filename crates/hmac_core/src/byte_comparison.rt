@@ -1,5 +1,4 @@
-ghost use Rattle.std.specs.Prelude.{◌≡◌, length};
-ghost use Rattle.std.specs.Str.{bytes_eq};
+ghost use Rattle.std.specs.{Prelude.{◌≡◌, length}, Str.bytes_eq};
 
 /// Whether two digests are equal. All 32 bytes are always compared, whatever the first ones are; no
 /// clause speaks of that, or of time.

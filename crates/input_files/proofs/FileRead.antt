@@ -1,8 +1,5 @@
 -- The reading of one file.
-use Rattle.std.proofs.Common.{◌≡◌, ◌<◌, ◌≤◌, ℕ, suc, List, Option, Some, None, IfSome, Result, Ok, Err, length, replicate, refl, inl, inr, arith}
-use Rattle.std.specs.Prelude.{IsSomeAnd}
-use Rattle.std.proofs.lemmas.Bool.{lt-ltb, le-ltb}
-use Rattle.std.proofs.lemmas.List.{length-replicate}
+use Rattle.std.{proofs.{Common.{◌≡◌, ◌<◌, ◌≤◌, ℕ, suc, List, Option, Some, None, IfSome, Result, Ok, Err, length, replicate, refl, inl, inr, arith}, lemmas.{Bool.{lt-ltb, le-ltb}, List.length-replicate}}, specs.Prelude.IsSomeAnd}
 use Rattle.outside_edge.specs.{Calls.Rose, File.{file_of, HasFile, Finds}, Shelf.KeepsFiles, declared.file_fault.FileFault.FileFault}
 use Rattle.outside_edge.specs.declared.file_fault.FileFault.TheVariants as file
 use Rattle.text_scan.specs.{declared.{fault_at.FaultAt.FaultAt, fault_kind.FaultKind.TheVariants.TooLong}}

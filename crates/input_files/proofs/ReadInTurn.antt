@@ -1,8 +1,6 @@
 -- Files that are read after others.
-use Rattle.std.proofs.Common.{◌≡◌, ◌∙◌, ℕ, Some, None, IfSome, Result, Ok, Err, subst, inl, inr, arith}
-use Rattle.std.specs.Prelude.{IsErrAnd}
-use Rattle.outside_edge.specs.{Calls.Rose, Shelf.KeepsFiles}
-use Rattle.outside_edge.proofs.Counts.{rose_since}
+use Rattle.std.{proofs.Common.{◌≡◌, ◌∙◌, ℕ, Some, None, IfSome, Result, Ok, Err, subst, inl, inr, arith}, specs.Prelude.IsErrAnd}
+use Rattle.outside_edge.{specs.{Calls.Rose, Shelf.KeepsFiles}, proofs.Counts.rose_since}
 use Rattle.input_files.specs.{declared.{refusal.Refusal.Refusal, status.Status.Status}, Row.RowOf, Reading.{Files, IsRefusal, Leaves, Reads, Refuses, first_refusal}, Status.status_of_refusal}
 
 refusal-both : {Outcome : Type 0} (files : Files) (row middle rest : RowOf Outcome)

@@ -1,7 +1,5 @@
 -- The words of a command line behind the first.
-use Rattle.std.proofs.Common.{◌≡◌, ◌∙◌, ◌<◌, ◌++◌, ◌∷◌, ◌↔◌, [], ℕ, List, Option, Some, None, length, drop, ap, refl, arith}
-use Rattle.std.specs.Prelude.{IsSome, String, option_to_list}
-use Rattle.std.specs.declared.alloc.Global.{Global}
+use Rattle.std.{proofs.Common.{◌≡◌, ◌∙◌, ◌<◌, ◌++◌, ◌∷◌, ◌↔◌, [], ℕ, List, Option, Some, None, length, drop, ap, refl, arith}, specs.{Prelude.{IsSome, String, option_to_list}, declared.alloc.Global.Global}}
 use Rattle.input_files.specs.CommandLine.{texts}
 
 no-words : (words : List (String Global)) (count : ℕ) → count ≡ length words → (0 < count → ⊥)

@@ -1,6 +1,5 @@
 -- What a program answers to its command line.
-use Rattle.std.specs.Prelude.{◌≡◌, ◌⊎◌, ℕ, List, [], ◌∷◌, Option, Some, None, Ok, Err, bytes_eq, codes, if◌then◌else◌}
-use Rattle.std.specs.IoError.{error_kind}
+use Rattle.std.specs.{Prelude.{◌≡◌, ◌⊎◌, ℕ, List, [], ◌∷◌, Option, Some, None, Ok, Err, bytes_eq, codes, if◌then◌else◌}, IoError.error_kind}
 use Rattle.outside_edge.specs.Sink.{Takes, TakesPrefix}
 use Rattle.input_files.specs.{CommandLine.{CommandLine, arguments_in, refused_words}, declared.status.Status.{Status, TheVariants.{Done, WriteFault, Memory}}}
 

@@ -1,8 +1,7 @@
 -- What the reading of a row's files gives.
 use Rattle.std.specs.Prelude.{◌≡◌, ◌⊎◌, ℕ, List, Option, Some, None, IfSome, Result, Ok, Err, IfOk, IfErr, option_map, unwrap_or}
-use Rattle.outside_edge.specs.{Calls.Rose, File.{file_of, Finds}, Shelf.KeepsFiles, declared.file_fault.FileFault.FileFault}
+use Rattle.outside_edge.specs.{Calls.Rose, File.{file_of, Finds}, Shelf.KeepsFiles, declared.{file_fault.FileFault.FileFault, shelf.Shelf.Ghosts as ShelfGhosts}}
 use Rattle.outside_edge.specs.declared.file_fault.FileFault.TheVariants as file
-use Rattle.outside_edge.specs.declared.shelf.Shelf as shelves
 use Rattle.text_scan.specs.{declared.{fault_at.FaultAt.FaultAt, fault_kind.FaultKind.TheVariants.TooLong}}
 use Rattle.input_files.specs.{declared.{bad_file.BadFile.BadFile, refusal.Refusal.Refusal, status.Status.{Status, TheVariants.{Absent, ReadFault, Memory, Bad}}}, Row.{FileKind, RowOf, Ends, Reads as Reading}, Status.status_of_refusal}
 use Rattle.input_files.specs.declared.refusal.Refusal.TheVariants as refusal
@@ -49,7 +48,7 @@ Refuses (Some refusal) status = (status ≡ refusal) ⊎ IsFailure status
 Refuses None status = IsFailure status
 
 -- the files of a row were refused, for a cause
-pub record IsUnread {S Outcome : Type 0} (s : shelves.Ghosts S) (old new : S)
+pub record IsUnread {S Outcome : Type 0} (s : ShelfGhosts S) (old new : S)
     (row : RowOf Outcome) (status : Status) : Type 0 where
   pub cause : IsRefusal (s.files old) (Rose (s.misses old) (s.misses new))
       (Rose (s.faults old) (s.faults new)) row status

@@ -1,5 +1,4 @@
-ghost use Rattle.std.specs.Prelude.{◌≡◌};
-ghost use Rattle.std.specs.Process.{exit_status};
+ghost use Rattle.std.specs.{Prelude.◌≡◌, Process.exit_status};
 ghost use Rattle.input_files.specs.Status.{code_of};
 
 use crate::status::Status;

@@ -1,6 +1,5 @@
 -- Memory outside the secrets, with the key away and what was written to the exclusive stack hidden.
-use Rattle.std.proofs.{Common.{◌≡◌, ℕ, ◌-◌, Bool, true, false, List, [], ◌∷◌, map, refl, ap, sym, ◌∙◌, arith, ◌+◌, ◌*◌, ◌/◌, ◌%◌, Option, Some, None, IfSome}, lemmas.Bool.{cond-true, cond-false, or_parts, eqb-true, Decides.nat_tests}}
-use Rattle.std.specs.Prelude.{◌==◌, if◌then◌else◌, ◌||◌}
+use Rattle.std.{proofs.{Common.{◌≡◌, ℕ, ◌-◌, Bool, true, false, List, [], ◌∷◌, map, refl, ap, sym, ◌∙◌, arith, ◌+◌, ◌*◌, ◌/◌, ◌%◌, Option, Some, None, IfSome}, lemmas.Bool.{cond-true, cond-false, or_parts, eqb-true, Decides.nat_tests}}, specs.Prelude.{◌==◌, if◌then◌else◌, ◌||◌}}
 use Rattle.device_types.specs.{Map.{lies_in, key_region, stack_region, touches}, declared.{access.Access.{Access, TheVariants.{Fetch, Read, Write}}, rule.Rule.Rule}, Access.IsFormed}
 use Rattle.part_definitions.specs.Memory.{PowerOn, ShownFlags, MemoryWrite, is_image_place, takes_write, first_byte, fixed_byte, last_written, byte_at, with_access}
 use Rattle.device_trace.specs.{Blank.{is_secret, blank_access}, Logs.memory_after}

@@ -1,6 +1,5 @@
 -- The digests of one call under SHA-256, computed once and looked up from then on.
-use Rattle.std.proofs.{Common.{◌≡◌, ◌∙◌, ℕ, zero, suc, ◌/◌, ◌%◌, Bool, true, false, List, [], ◌∷◌, ◌++◌, map, replicate, refl, ap, ◌+◌, ◌*◌, length, take, drop}, lemmas.Slice.Eq.bytes_eq-Decides}
-use Rattle.std.specs.{Prelude.if◌then◌else◌, Str.bytes_eq}
+use Rattle.std.{proofs.{Common.{◌≡◌, ◌∙◌, ℕ, zero, suc, ◌/◌, ◌%◌, Bool, true, false, List, [], ◌∷◌, ◌++◌, map, replicate, refl, ap, ◌+◌, ◌*◌, length, take, drop}, lemmas.Slice.Eq.bytes_eq-Decides}, specs.{Prelude.if◌then◌else◌, Str.bytes_eq}}
 use Rattle.sha2.specs.Sha256.{digest_bytes, first_words, rounds, sha256, add_state, compress, hash_after, initial_hash_256, next_word, padded_message, schedule}
 use Rattle.device_types.specs.Address.{Bytes}
 use Rattle.part_definitions.specs.{Attestation.bytes_of_words, Hmac.{Digest, block_of, with_mask}}

@@ -1,8 +1,5 @@
 -- A step of a call that is not refused, with and without the key.
-use Rattle.std.proofs.Common.{◌≡◌, ℕ, ◌+◌, ◌*◌, ◌/◌, ◌<◌, ◌≤◌, true, false, List, [], ◌∷◌, ◌++◌, length, Some, refl, ap, sym, ◌∙◌, arith}
-use Rattle.std.specs.Prelude.{◌==◌, ◌&&◌, ◌||◌, slice_index, if◌then◌else◌}
-use Rattle.std.proofs.lemmas.Bool.{cond-true, cond-false}
-use Rattle.std.proofs.lemmas.Bool.Decides.{nat_tests}
+use Rattle.std.{proofs.{Common.{◌≡◌, ℕ, ◌+◌, ◌*◌, ◌/◌, ◌<◌, ◌≤◌, true, false, List, [], ◌∷◌, ◌++◌, length, Some, refl, ap, sym, ◌∙◌, arith}, lemmas.Bool.{cond-true, cond-false, Decides.nat_tests}}, specs.Prelude.{◌==◌, ◌&&◌, ◌||◌, slice_index, if◌then◌else◌}}
 use Rattle.word_arith.specs.declared.size.Size.TheVariants.{Word}
 use Rattle.device_types.specs.{declared.{access.Access.{Access, TheVariants.{Read, Write}}, bounds.Bounds.Bounds}, Access.some_reads, Map.{lies_in, touches, some_touches, mac_region, key_region, stack_region, peripheral_region, ROM_EXIT}}
 use Rattle.part_definitions.specs.Attestation.{CallItem, KeyRead, MetadataRead, KeptRead, KeptWrite, DecisionWrite, DerivedKeyWrite, RegionRead, InnerDigestWrite, MacWrite, ReturnRead, region_words, item_access, item_pc, word_passed}

@@ -1,6 +1,5 @@
 -- The EXEC flag does not look at what is blanked, and the second flag is given it alone.
-use Rattle.std.proofs.{Common.{arith, ◌≡◌, ℕ, Bool, true, false, List, [], ◌∷◌, Option, map, refl, ap, ◌∙◌}, lemmas.Bool.Decides.nat_tests}
-use Rattle.std.specs.{Prelude.{if◌then◌else◌, ◌||◌}, List.list_any}
+use Rattle.std.{proofs.{Common.{arith, ◌≡◌, ℕ, Bool, true, false, List, [], ◌∷◌, Option, map, refl, ap, ◌∙◌}, lemmas.Bool.Decides.nat_tests}, specs.{Prelude.{if◌then◌else◌, ◌||◌}, List.list_any}}
 use Rattle.device_types.specs.{declared.{access.Access.Access, bus_record.BusRecord.BusRecord}, ExecFlag.{SeenRecord, clears, exec, starts_run, last_pc, records_since}}
 use Rattle.device_trace.specs.{Blank.{blank_access, blank_record, blank_seen, blank_value}, Logs.{goes_on_in_call, records_until_call}}
 use Rattle.trace_facts.proofs.BlankRecords.{last_pc-blank, starts_run-blank}

@@ -1,9 +1,6 @@
 -- The words of a call with the key's and those of the kept counter among them hidden.
-use Rattle.std.proofs.Common.{◌≡◌, ℕ, zero, suc, ◌+◌, ◌<◌, ◌≤◌, Bool, true, false, List, [], ◌∷◌, ◌++◌, length, refl, ap, ◌∙◌, arith}
-use Rattle.std.specs.Prelude.{◌||◌, ◌&&◌, nat_le, nat_lt, slice_index, if◌then◌else◌}
-use Rattle.std.proofs.lemmas.Bool.Decides.{nat_tests}
-use Rattle.part_definitions.specs.Attestation.{KEY_WORDS, METADATA_WORDS, REQUEST_WORDS, bounds_read, region_words, decision_read, call_item}
-use Rattle.part_definitions.proofs.CallItems.{item_after}
+use Rattle.std.{proofs.{Common.{◌≡◌, ℕ, zero, suc, ◌+◌, ◌<◌, ◌≤◌, Bool, true, false, List, [], ◌∷◌, ◌++◌, length, refl, ap, ◌∙◌, arith}, lemmas.Bool.Decides.nat_tests}, specs.Prelude.{◌||◌, ◌&&◌, nat_le, nat_lt, slice_index, if◌then◌else◌}}
+use Rattle.part_definitions.{specs.Attestation.{KEY_WORDS, METADATA_WORDS, REQUEST_WORDS, bounds_read, region_words, decision_read, call_item}, proofs.CallItems.item_after}
 use Rattle.key_isolation.proofs.Bytes.{zero_either}
 
 -- which words are hidden

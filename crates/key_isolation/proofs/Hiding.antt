@@ -1,6 +1,5 @@
 -- The logs of a play with the secrets hidden, and what stays of them.
-use Rattle.std.proofs.Common.{arith, ◌≡◌, ℕ, false, List, Option, Some, None, map, refl, ap, ◌∙◌}
-use Rattle.std.specs.Prelude.{if◌then◌else◌}
+use Rattle.std.{proofs.Common.{arith, ◌≡◌, ℕ, false, List, Option, Some, None, map, refl, ap, ◌∙◌}, specs.Prelude.if◌then◌else◌}
 use Rattle.device_types.specs.{declared.{bus_record.BusRecord.BusRecord, kind.Kind.Kind}}
 use Rattle.part_definitions.specs.{Attestation.item_pc, CpuRegister.allows_interrupts, CpuState.{Boundary, Executing, Entering}, Interrupt.first_vector}
 use Rattle.device_trace.specs.{Blank.{is_secret, blank_record, blank_seen}, Progress.{level_after, Progress, Held, Runs, InCall, last_registers, next_pc_of, kind_of, progress_from_boundary, progress_within, tells_irq, fetches_opcode}, Logs.{Logs, flags_of, logged_byte, logged_bounds, vector_of, step_progress, vector_taken, finishes_call, call_decision, decision_after}, Peripherals.requests, Signals.step_kind, Start.{Start, without_key}}

@@ -1,12 +1,10 @@
 -- The logs after a step without the key are the real ones, hidden.
-use Rattle.std.proofs.{Common.{◌≡◌, ℕ, Bool, List, ◌∷◌, ◌++◌, Option, Some, None, map, refl, ap, ◌∙◌, [], sym, arith, append-nil, inl, inr}, lemmas.Bool.{cond-true, cond-false, cases_Bool, Decides.nat_tests}}
+use Rattle.std.{proofs.{Common.{◌≡◌, ℕ, Bool, List, ◌∷◌, ◌++◌, Option, Some, None, map, refl, ap, ◌∙◌, [], sym, arith, append-nil, inl, inr}, lemmas.Bool.{cond-true, cond-false, cases_Bool, Decides.nat_tests}}, specs.Prelude.if◌then◌else◌}
 use Rattle.device_types.specs.{declared.{access.Access.{Access, TheVariants.{Fetch, Read, Write}}, bus_record.BusRecord.BusRecord, event.Event.Event, rule.Rule.Rule, kind.Kind.{Kind, TheVariants.{Boot, Cpu, Idle, Irq, Rom}}}, ExecFlag.last_pc, Map.{lies_in, touches, stack_region, mac_region}}
 use Rattle.part_definitions.specs.{FirstRule.first_rule, Serial.byte_sent}
-use Rattle.device_trace.specs.{Blank.{blank_access, blank_value, blank_record, blank_seen}, AccessesAreFormed.AccessesAreFormed, Progress.{level_after, Progress, last_registers, next_progress}, Logs.{Logs, step_progress, peripherals_after, progress_after, released_words_after, with_events, with_record, with_released_word}, Signals.{value_read, step_kind, proposed_access, signals_at, signals_of}, Start.Start, Step.{access_recorded, dma_value_read, record_from, record_of, asks_reset, next_record}, Trace.next_logs, Peripherals.{Peripherals, with_step}, Text.byte_sent_by}
-use Rattle.device_trace.proofs.FormedAccess.{record_of-formed}
+use Rattle.device_trace.{specs.{Blank.{blank_access, blank_value, blank_record, blank_seen}, AccessesAreFormed.AccessesAreFormed, Progress.{level_after, Progress, last_registers, next_progress}, Logs.{Logs, step_progress, peripherals_after, progress_after, released_words_after, with_events, with_record, with_released_word}, Signals.{value_read, step_kind, proposed_access, signals_at, signals_of}, Start.Start, Step.{access_recorded, dma_value_read, record_from, record_of, asks_reset, next_record}, Trace.next_logs, Peripherals.{Peripherals, with_step}, Text.byte_sent_by}, proofs.FormedAccess.record_of-formed}
 use Rattle.trace_facts.proofs.Sound.{IsSound}
 use Rattle.key_isolation.proofs.{Hiding.{open_start, hide_progress, hide, vector_of-hide, step_progress-hide, vector_taken-hide, logged_bounds-hide, level_after-hide, decision_after-hide}, Bytes.memory_after-hide, RecordBlank.{SameWithoutRule, unrefused_same, record_of-hide}}
-use Rattle.std.specs.Prelude.{if◌then◌else◌}
 use Rattle.word_arith.specs.declared.size.Size.{Size}
 
 -- What a blanked access is to the peripherals, and what it releases.

@@ -1,6 +1,5 @@
 -- Numbers in memories that are equal outside the secrets.
-use Rattle.std.proofs.Common.{◌≡◌, ℕ, ◌+◌, ◌*◌, ◌/◌, ◌<◌, true, false, refl, arith}
-use Rattle.std.proofs.lemmas.Bool.Decides.{nat_tests}
+use Rattle.std.proofs.{Common.{◌≡◌, ℕ, ◌+◌, ◌*◌, ◌/◌, ◌<◌, true, false, refl, arith}, lemmas.Bool.Decides.nat_tests}
 use Rattle.word_arith.specs.{declared.size.Size.{Size, TheVariants.{Byte, Word}}}
 use Rattle.device_types.specs.{declared.access.Access.TheVariants.Read, Map.{lies_in, key_region, stack_region, ER_MIN, ER_MAX, OR_MIN, OR_MAX}}
 use Rattle.part_definitions.specs.{Memory.{number_from, number_at}, Metadata.bounds_in}

@@ -1,8 +1,6 @@
 -- A step that is not refused, with and without the key: its access, its value, and what it leads
 -- to.
-use Rattle.std.proofs.Common.{◌≡◌, ℕ, Bool, true, false, List, [], ◌∷◌, ◌++◌, length, Option, Some, None, refl, ap, sym, ◌∙◌, subst, not}
-use Rattle.std.specs.Prelude.{◌==◌, ◌&&◌, ◌||◌, if◌then◌else◌}
-use Rattle.std.proofs.lemmas.Bool.{cond-false}
+use Rattle.std.{proofs.{Common.{◌≡◌, ℕ, Bool, true, false, List, [], ◌∷◌, ◌++◌, length, Option, Some, None, refl, ap, sym, ◌∙◌, subst, not}, lemmas.Bool.cond-false}, specs.Prelude.{◌==◌, ◌&&◌, ◌||◌, if◌then◌else◌}}
 use Rattle.word_arith.specs.declared.size.Size.TheVariants.{Word}
 use Rattle.device_types.specs.{declared.{access.Access.{Access, TheVariants.{Fetch, Read, Write}}, kind.Kind.{Kind, TheVariants.Rom}}, Access.{some_writes, some_reads}, Map.{touches, some_touches, key_region, stack_region, ROM_EXIT}}
 use Rattle.part_definitions.specs.{Attestation.{CallItem, KeyRead, MetadataRead, KeptRead, KeptWrite, DecisionWrite, DerivedKeyWrite, RegionRead, InnerDigestWrite, MacWrite, ReturnRead, region_words, decision_read, call_item, item_access, item_pc, is_return, bounds_read}, CpuRegister.sp_of, CpuState.{CpuState, cpu_pc}, MonitorRule.in_rom}

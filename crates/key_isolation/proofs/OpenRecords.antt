@@ -1,7 +1,5 @@
 -- Records without secrets stay as they are when they are blanked.
-use Rattle.std.proofs.Common.{◌≡◌, ℕ, List, Option, None, IfSome, arith}
-use Rattle.std.specs.Prelude.{IsTrue, IsFalse}
-use Rattle.std.proofs.lemmas.Bool.Decides.{nat_tests}
+use Rattle.std.{proofs.{Common.{◌≡◌, ℕ, List, Option, None, IfSome, arith}, lemmas.Bool.Decides.nat_tests}, specs.Prelude.{IsTrue, IsFalse}}
 use Rattle.device_types.specs.{declared.{access.Access.Access, bus_record.BusRecord.BusRecord, kind.Kind.{Kind, TheVariants.Rom}, rule.Rule.Rule}}
 use Rattle.part_definitions.specs.Memory.{is_image_place}
 use Rattle.device_trace.specs.{Blank.{blank_access, blank_value, blank_record, is_secret}, Logs.{with_released_word, released_words_after}}

@@ -1,8 +1,5 @@
 -- What the processor reads outside the secrets is the same without the key.
-use Rattle.std.proofs.Common.{◌≡◌, ℕ, true, false, List, Some, refl, not, ◌*◌, ◌/◌}
-use Rattle.std.specs.Prelude.{◌&&◌}
-use Rattle.std.proofs.lemmas.Bool.Decides.{nat_tests}
-use Rattle.std.proofs.Common.{arith}
+use Rattle.std.{proofs.{Common.{◌≡◌, ℕ, true, false, List, Some, refl, not, ◌*◌, ◌/◌, arith}, lemmas.Bool.Decides.nat_tests}, specs.Prelude.◌&&◌}
 use Rattle.word_arith.specs.{declared.size.Size.{Size, TheVariants.Word}}
 use Rattle.device_types.specs.{declared.access.Access.{Access, TheVariants.{Fetch, Read, Write}}, Map.{lies_in, touches, peripheral_region, key_region, stack_region}}
 use Rattle.part_definitions.specs.{BusAccess.fetch_at, Memory.number_at, MonitorRule.in_rom}

@@ -2,8 +2,7 @@
 use Rattle.std.proofs.{Common.{◌≡◌, ℕ, Bool, List, ◌++◌, length, Option, Some, None, refl, ap, sym, ◌∙◌, subst, false, IfSome, map}, lemmas.Bool.{cond-false, or_from}}
 use Rattle.device_types.specs.{declared.{access.Access.{Access, TheVariants.{Fetch, Read, Write}}, kind.Kind.Kind, rule.Rule.Rule, signals.Signals.Signals}, Access.{without_number, IsFormed}, Map.{touches, stack_region, some_touches, key_region}, ExecFlag.last_pc}
 use Rattle.part_definitions.specs.{Dma.dma_access, FirstRule.first_rule, Memory.{byte_at, with_access, memory_read}}
-use Rattle.device_trace.specs.{Blank.{touches_secrets, blank_access, blank_value, blank_record, SameOutside}, Logs.{Logs, step_progress, vector_of, released_words_after, flags_of}, Progress.{Progress, last_registers, next_pc_of, access_of, next_progress}, Signals.{value_read, step_kind, proposed_access, signals_at, signals_of}, Start.Start, Step.{dma_value_read, record_from, record_of}}
-use Rattle.device_trace.proofs.FormedAccess.{access_of-formed}
+use Rattle.device_trace.{specs.{Blank.{touches_secrets, blank_access, blank_value, blank_record, SameOutside}, Logs.{Logs, step_progress, vector_of, released_words_after, flags_of}, Progress.{Progress, last_registers, next_pc_of, access_of, next_progress}, Signals.{value_read, step_kind, proposed_access, signals_at, signals_of}, Start.Start, Step.{dma_value_read, record_from, record_of}}, proofs.FormedAccess.access_of-formed}
 use Rattle.key_isolation.proofs.{Bytes.{zero_either, hide_write, keyless, byte_at-hide, with_access-hide}, Hiding.{open_start, hide_progress, hide, last_registers-hide, step_kind-hide, step_progress-hide, flags_of-hide}, SameRule.{SameSignals, first_rule-same}, SignalShape.signals_of-hide, OneStep.{KeepsSecrets, SameStep, step_same}, Numbers.number_at-outside}
 use Rattle.trace_facts.proofs.{BreaksNoRule.{BreaksNoRule, first_rule-none}, Sound.{IsSound, progress_within-right}, BlankRecords.last_pc-blank}
 use Rattle.word_arith.specs.declared.size.Size.TheVariants.{Word}

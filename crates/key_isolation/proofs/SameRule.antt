@@ -1,9 +1,7 @@
 -- The rules see what a step is about to do but for the number that a write carries, and a fetched
 -- word only where no key rule is broken.
-use Rattle.std.proofs.Common.{arith, ◌≡◌, ℕ, Bool, true, false, Option, Some, None, refl, ap, sym, ◌∙◌}
-use Rattle.std.specs.Prelude.{◌&&◌}
+use Rattle.std.{proofs.Common.{arith, ◌≡◌, ℕ, Bool, true, false, Option, Some, None, refl, ap, sym, ◌∙◌}, specs.{Prelude.◌&&◌, Option.option_or}}
 use Rattle.device_types.specs.{declared.{access.Access.Access, rule.Rule.{Rule, TheVariants.{X0, I1}}, signals.Signals.Signals}, Access.without_number}
-use Rattle.std.specs.Option.{option_or}
 use Rattle.part_definitions.specs.{FirstRule.{rule_where, first_rule}, NextAccess.is_illegal, MonitorRule.{key_rule, atomicity_rule}}
 
 pub record SameSignals (view real : Signals) : Type 0 where

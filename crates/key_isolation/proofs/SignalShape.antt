@@ -1,6 +1,5 @@
 -- With the secrets hidden the next step is about to do the same, but for what the rules do not see.
-use Rattle.std.proofs.Common.{arith, ◌≡◌, ℕ, Bool, true, false, List, Option, Some, None, length, refl, ap, sym, ◌∙◌, subst, not}
-use Rattle.std.specs.Prelude.{◌&&◌, is_some}
+use Rattle.std.{proofs.Common.{arith, ◌≡◌, ℕ, Bool, true, false, List, Option, Some, None, length, refl, ap, sym, ◌∙◌, subst, not}, specs.Prelude.{◌&&◌, is_some}}
 use Rattle.device_types.specs.{declared.{access.Access.Access, bounds.Bounds.Bounds, kind.Kind.{Kind, TheVariants.{Boot, Cpu, Idle, Irq, Rom}}}, Access.{some_writes, without_number}, Map.{some_touches, key_region, stack_region}}
 use Rattle.part_definitions.specs.{BusAccess.fetch_at, Attestation.{CallItem, item_access, bounds_read, call_item}, CpuRegister.sp_of, CpuState.{Boundary, Executing, Entering}, MonitorRule.{in_rom, key_rule}, NextAccess.next_access}
 use Rattle.device_trace.specs.{Blank.touches_secrets, Logs.{Logs, vector_of, step_progress}, Progress.{Progress, Held, Runs, InCall, next_pc_of, progress_within, access_of, fetches_opcode}, Signals.{word_fetched, step_kind, proposed_access, signals_at, signals_of}, Start.Start}

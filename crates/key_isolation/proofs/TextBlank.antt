@@ -1,9 +1,6 @@
 -- The text of a play is the same without the key.
-use Rattle.std.proofs.Common.{◌≡◌, ℕ, zero, suc, ◌+◌, ◌-◌, ◌<◌, ◌≤◌, false, List, [], ◌∷◌, ◌++◌, length, Option, Some, None, inl, inr, refl, ap, sym, ◌∙◌, arith, lit≤}
-use Rattle.std.specs.Prelude.{◌==◌, if◌then◌else◌}
-use Rattle.std.proofs.lemmas.Bool.Decides.{nat_tests}
-use Rattle.device_types.specs.{declared.{bounds.Bounds.Bounds, bus_record.BusRecord.BusRecord, version.Version.TheVariants.Two}, Bounds.are_valid, Map.metadata_region, Report.ReportFields}
-use Rattle.device_types.proofs.ValidRange.{IsValidRange, are_valid-ranges}
+use Rattle.std.{proofs.{Common.{◌≡◌, ℕ, zero, suc, ◌+◌, ◌-◌, ◌<◌, ◌≤◌, false, List, [], ◌∷◌, ◌++◌, length, Option, Some, None, inl, inr, refl, ap, sym, ◌∙◌, arith, lit≤}, lemmas.Bool.Decides.nat_tests}, specs.Prelude.{◌==◌, if◌then◌else◌}}
+use Rattle.device_types.{specs.{declared.{bounds.Bounds.Bounds, bus_record.BusRecord.BusRecord, version.Version.TheVariants.Two}, Bounds.are_valid, Map.metadata_region, Report.ReportFields}, proofs.ValidRange.{IsValidRange, are_valid-ranges}}
 use Rattle.part_definitions.specs.{Memory.bytes_from, Metadata.little_endian, Region.output_bytes, Request.ATTESTS}
 use Rattle.printed_lines.specs.Line.{end_line, sent_line, reset_line, report_line, denied_line}
 use Rattle.device_trace.specs.{Trace.{Play, next_logs, logs_after}, Blank.{is_secret, SameOutside, blank_record}, Logs.{Logs, logged_byte, logged_bounds}, Start.Start, Step.next_record, Text.{reported_output, report_of, report_where, denial_in, some_line, step_lines, lines_of, end_line_after, play_text}}

@@ -2,8 +2,7 @@
 use Rattle.std.proofs.Common.{◌≡◌, ℕ, suc, List, [], ◌∷◌, ◌++◌, refl, ap, sym, ◌∙◌, arith, append-nil, subst}
 use Rattle.device_types.specs.declared.bus_record.BusRecord.{BusRecord}
 use Rattle.device_trace.specs.{Trace.{Play, byte_after, logs_after, released_words, trace}, Blank.{SameOutside, blank}, Logs.{Logs, logged_byte}, Start.{Start, without_key}}
-use Rattle.key_isolation.specs.Keyless.{Agree, ReleaseAlike, SameButKey, LooksAlike, LooksKeyless, keyless}
-use Rattle.key_isolation.proofs.{FlagBlank.blank_record-twice, Hiding.{open_start, logged_byte-hide}, Induction.play_hides, TextBlank.play_text-hide}
+use Rattle.key_isolation.{specs.Keyless.{Agree, ReleaseAlike, SameButKey, LooksAlike, LooksKeyless, keyless}, proofs.{FlagBlank.blank_record-twice, Hiding.{open_start, logged_byte-hide}, Induction.play_hides, TextBlank.play_text-hide}}
 
 -- lists that agree are both beginnings of one list
 record BeginsWithBoth (left right : List ℕ) : Type 0 where

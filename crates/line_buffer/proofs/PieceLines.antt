@@ -1,15 +1,8 @@
 -- Lines of pieces: their words, and how long they are.
-use Rattle.std.proofs.Common.{◌≡◌, ◌∙◌, ℕ, ◌+◌, ◌/◌, ◌%◌, ◌<◌, ◌^◌, Bool, true, false, List, [], ◌∷◌, ◌++◌, length, length-append, append_assoc, append-nil, refl, ap, sym, arith}
-use Rattle.std.specs.Prelude.{codes, IsUtf8}
-use Rattle.std.specs.List.{join_with_byte}
-use Rattle.std.specs.Str.{IsAscii}
-use Rattle.std.specs.Str.Lines.{lines}
-use Rattle.std.proofs.lemmas.Str.{IsUtf8-append, IsUtf8-from_ascii}
-use Rattle.std.proofs.lemmas.Str.Ascii.{IsAscii-nil, IsAscii-cons}
+use Rattle.std.{proofs.{Common.{◌≡◌, ◌∙◌, ℕ, ◌+◌, ◌/◌, ◌%◌, ◌<◌, ◌^◌, Bool, true, false, List, [], ◌∷◌, ◌++◌, length, length-append, append_assoc, append-nil, refl, ap, sym, arith}, lemmas.Str.{IsUtf8-append, IsUtf8-from_ascii, Ascii.{IsAscii-nil, IsAscii-cons}}}, specs.{Prelude.{codes, IsUtf8}, List.join_with_byte, Str.{IsAscii, Lines.lines}}}
 use Rattle.named_value.specs.Names.{IsPlainWord}
 use Rattle.printed_lines.specs.Line.{flag_digit, byte_digits, word_digits, with_pieces, line_of}
-use Rattle.text_scan.specs.Word.{words_of}
-use Rattle.text_scan.proofs.{FirstLine.lines-line, PlainWords.{ArePlain, words_of-join, printed-join, printed_bounds, printed-ascii, plain-encoded, one_byte, two_bytes}}
+use Rattle.text_scan.{specs.Word.words_of, proofs.{FirstLine.lines-line, PlainWords.{ArePlain, words_of-join, printed-join, printed_bounds, printed-ascii, plain-encoded, one_byte, two_bytes}}}
 use Rattle.line_buffer.specs.LineLaw.{ArePieces, room, IsReadByWords, HasRoom}
 
 -- pieces one after the other, and behind a text

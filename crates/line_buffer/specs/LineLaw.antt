@@ -1,6 +1,5 @@
 -- A line of pieces is read word by word, and is as long as they are.
-use Rattle.std.specs.Prelude.{◌≡◌, ◌+◌, ◌++◌, ℕ, List, [], ◌∷◌, length}
-use Rattle.std.specs.Str.Lines.{lines}
+use Rattle.std.specs.{Prelude.{◌≡◌, ◌+◌, ◌++◌, ℕ, List, [], ◌∷◌, length}, Str.Lines.lines}
 use Rattle.named_value.specs.Names.{IsPlainWord}
 use Rattle.printed_lines.specs.Line.{with_pieces, line_of}
 use Rattle.text_scan.specs.Word.{words_of}

@@ -1,14 +1,8 @@
 -- What is attested in a memory, its sizes and its words.
-use Rattle.std.proofs.Common.{◌≡◌, ℕ, zero, suc, ◌+◌, ◌-◌, ◌*◌, ◌/◌, ◌%◌, ◌<◌, ◌≤◌, Bool, true, false, List, [], ◌∷◌, ◌++◌, length, inl, inr, refl, ap, sym, ◌∙◌, arith}
-use Rattle.std.specs.Prelude.{slice_index, nat_lt, if◌then◌else◌}
-use Rattle.std.proofs.lemmas.Bool.{cases_lt, cond-true, cond-false, lt-ltb, le-ltb}
-use Rattle.std.proofs.lemmas.List.{length-append, get_or_append_left, get_or-append_right}
-use Rattle.device_types.specs.{declared.bounds.Bounds.Bounds, Bounds.are_valid, Map.metadata_region}
-use Rattle.part_definitions.specs.{Attestation.{executable_words, region_place, region_words, word_of_bytes, words_between}, Metadata.bounds_in, Region.{bounded_bytes, bytes_between, output_bytes}}
-use Rattle.mac_coverage.specs.AttestedBytes.{attested_bytes_in}
-use Rattle.mac_coverage.proofs.{WordPlan.{IsAttested, attested_bounds}, ValidPlaces.{IsFreePlace, range-free}, Words.{AreBytes, bytes_from-are, word-bytes_from}}
-use Rattle.part_definitions.proofs.BytesFrom.{length-bytes_from}
-use Rattle.device_types.proofs.ValidRange.{AreValidRanges, IsValidRange, are_valid-ranges}
+use Rattle.std.{proofs.{Common.{◌≡◌, ℕ, zero, suc, ◌+◌, ◌-◌, ◌*◌, ◌/◌, ◌%◌, ◌<◌, ◌≤◌, Bool, true, false, List, [], ◌∷◌, ◌++◌, length, inl, inr, refl, ap, sym, ◌∙◌, arith}, lemmas.{Bool.{cases_lt, cond-true, cond-false, lt-ltb, le-ltb}, List.{length-append, get_or_append_left, get_or-append_right}}}, specs.Prelude.{slice_index, nat_lt, if◌then◌else◌}}
+use Rattle.device_types.{specs.{declared.bounds.Bounds.Bounds, Bounds.are_valid, Map.metadata_region}, proofs.ValidRange.{AreValidRanges, IsValidRange, are_valid-ranges}}
+use Rattle.part_definitions.{specs.{Attestation.{executable_words, region_place, region_words, word_of_bytes, words_between}, Metadata.bounds_in, Region.{bounded_bytes, bytes_between, output_bytes}}, proofs.BytesFrom.length-bytes_from}
+use Rattle.mac_coverage.{specs.AttestedBytes.attested_bytes_in, proofs.{WordPlan.{IsAttested, attested_bounds}, ValidPlaces.{IsFreePlace, range-free}, Words.{AreBytes, bytes_from-are, word-bytes_from}}}
 
 -- how many bytes and words there are from one word to another
 range-size : (first last : ℕ) → IsValidRange metadata_region first last

@@ -1,11 +1,7 @@
 -- The access of a call after so many words that passed, and its number.
-use Rattle.std.proofs.Common.{◌≡◌, ℕ, ◌+◌, ◌<◌, ◌≤◌, true, false, refl, ap, arith}
-use Rattle.std.specs.Prelude.{◌==◌}
-use Rattle.std.proofs.lemmas.Bool.{cond_both, cond-false, ne_eqb}
-use Rattle.std.proofs.lemmas.Bool.Decides.{nat_tests}
+use Rattle.std.{proofs.{Common.{◌≡◌, ℕ, ◌+◌, ◌<◌, ◌≤◌, true, false, refl, ap, arith}, lemmas.Bool.{cond_both, cond-false, ne_eqb, Decides.nat_tests}}, specs.Prelude.◌==◌}
 use Rattle.device_types.specs.Map.{ROM_ENTRY, ROM_BODY, ROM_EXIT}
-use Rattle.part_definitions.specs.{Attestation.{CallItem, KeyRead, MetadataRead, KeptRead, KeptWrite, DecisionWrite, DerivedKeyWrite, RegionRead, InnerDigestWrite, MacWrite, ReturnRead, item_pc, is_return}, Request.ATTESTS}
-use Rattle.part_definitions.proofs.CallItems.{item_after, item_after-is}
+use Rattle.part_definitions.{specs.{Attestation.{CallItem, KeyRead, MetadataRead, KeptRead, KeptWrite, DecisionWrite, DerivedKeyWrite, RegionRead, InnerDigestWrite, MacWrite, ReturnRead, item_pc, is_return}, Request.ATTESTS}, proofs.CallItems.{item_after, item_after-is}}
 use Rattle.trace_facts.proofs.CallPlaces.{IsItemAt, item_after-at}
 
 -- items from their numbers

@@ -1,14 +1,11 @@
 -- A call so far: what is attested has stood since its first step, the counter is kept, and the
 -- words of the call are the planned ones.
-use Rattle.std.proofs.Common.{◌≡◌, ℕ, suc, ◌+◌, ◌<◌, ◌≤◌, true, false, List, [], ◌∷◌, ◌++◌, drop, Option, Some, None, length, refl, ap, sym, ◌∙◌, arith, subst}
-use Rattle.std.specs.Prelude.{if◌then◌else◌}
-use Rattle.std.proofs.lemmas.List.{length_push}
+use Rattle.std.{proofs.{Common.{◌≡◌, ℕ, suc, ◌+◌, ◌<◌, ◌≤◌, true, false, List, [], ◌∷◌, ◌++◌, drop, Option, Some, None, length, refl, ap, sym, ◌∙◌, arith, subst}, lemmas.List.length_push}, specs.Prelude.if◌then◌else◌}
 use Rattle.device_types.specs.{declared.{access.Access.Access, bounds.Bounds.Bounds, bus_record.BusRecord.BusRecord, event.Event.Event, kind.Kind.{Kind, TheVariants.Rom}, rule.Rule.Rule}}
 use Rattle.part_definitions.specs.{Attestation.{CallItem, ReturnRead, bounds_read, call_item, is_return, item_access, word_passed}, CpuRegister.sp_of, Memory.{MemoryWrite, byte_at, is_flag_word, with_access}, Request.ATTESTS}
 use Rattle.device_trace.specs.{Trace.{Play, byte_after, logs_after, trace}, Logs.{Logs, flags_of, released_words_after, with_events, with_released_word}, Progress.call_access, Signals.value_read, Start.Start, Step.next_record}
-use Rattle.mac_coverage.specs.{AttestedBytes.{AttestedBytes, without_flag_words}, Coverage.{begins_call, last_call, mac_written, attested_after, call_length, kept_after}}
+use Rattle.mac_coverage.{specs.{AttestedBytes.{AttestedBytes, without_flag_words}, Coverage.{begins_call, last_call, mac_written, attested_after, call_length, kept_after}}, proofs.{AttestedIs.attested_bytes_in-is, CallItems.{goes_on-attests, is_last, not_last}, Device.{Device, start_of, start_of-bytes, byte_after-byte}, ExecKept.IsRomStep, KeptStored.{kept-alike, kept-early, kept-late}, MacStored.{MacStands, mac-alike}, Passes.{Passes, item-passes, kept_at, mac_count, words_written}, WordPlan.{ArePlanned, IsAttested, IsCounter, Plan, call_item-planned, first_mac_words, planned-more, planned_counter, planned_decision, planned_item, planned_region, planned_tag}, Steps.{IsCallStep, bytes-after}, Words.AreBytes}}
 use Rattle.trace_facts.proofs.CallPlaces.{IsItemAt, item_after-at}
-use Rattle.mac_coverage.proofs.{AttestedIs.attested_bytes_in-is, CallItems.{goes_on-attests, is_last, not_last}, Device.{Device, start_of, start_of-bytes, byte_after-byte}, ExecKept.IsRomStep, KeptStored.{kept-alike, kept-early, kept-late}, MacStored.{MacStands, mac-alike}, Passes.{Passes, item-passes, kept_at, mac_count, words_written}, WordPlan.{ArePlanned, IsAttested, IsCounter, Plan, call_item-planned, first_mac_words, planned-more, planned_counter, planned_decision, planned_item, planned_region, planned_tag}, Steps.{IsCallStep, bytes-after}, Words.AreBytes}
 
 -- the logs after the events of a step, its record, and the records of its call before it
 abbrev pub log_at : Device → Play → List Event → Logs

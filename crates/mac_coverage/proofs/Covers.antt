@@ -1,14 +1,9 @@
 -- The MAC covers a call so far, and one that a refused step breaks off.
-use Rattle.std.proofs.Common.{◌≡◌, ℕ, ◌+◌, ◌<◌, ◌≤◌, Bool, true, false, List, [], ◌∷◌, ◌++◌, drop, inl, inr, Option, Some, None, length, refl, ap, sym, ◌∙◌, arith, subst}
-use Rattle.std.specs.Prelude.{◌==◌, ◌&&◌, is_none, is_some, nat_lt, if◌then◌else◌}
-use Rattle.std.proofs.lemmas.Bool.{cases_lt, cond-false, cond-true, eq-eqb, eqb-true, le-ltb, lt-ltb}
-use Rattle.std.proofs.lemmas.List.{take-append-drop}
-use Rattle.std.proofs.lemmas.List.FromFn.{take-map-range_with_len}
+use Rattle.std.{proofs.{Common.{◌≡◌, ℕ, ◌+◌, ◌<◌, ◌≤◌, Bool, true, false, List, [], ◌∷◌, ◌++◌, drop, inl, inr, Option, Some, None, length, refl, ap, sym, ◌∙◌, arith, subst}, lemmas.{Bool.{cases_lt, cond-false, cond-true, eq-eqb, eqb-true, le-ltb, lt-ltb}, List.{take-append-drop, FromFn.take-map-range_with_len}}}, specs.Prelude.{◌==◌, ◌&&◌, is_none, is_some, nat_lt, if◌then◌else◌}}
 use Rattle.device_types.specs.{declared.{bus_record.BusRecord.BusRecord, event.Event.Event, rule.Rule.Rule}}
 use Rattle.part_definitions.specs.{Attestation.word_of_bytes, Request.ATTESTS}
 use Rattle.device_trace.specs.{Trace.{Play, byte_after, trace}, Logs.{decision_after, call_decision, finishes_call, released_words_after}, Progress.Progress, Text.last_decision}
-use Rattle.mac_coverage.specs.{AttestedBytes.call_words, Coverage.{ends_finished, last_call, MacCoversCall}}
-use Rattle.mac_coverage.proofs.{Calls.{CallSoFar, before-last, earlier_records, entry_at}, Device.start_of, MacStored.{MacStands, mac-is}, Passes.{decision_words, mac_count, words_written}, WordPlan.{Plan, first_mac_words, planned_decision, planned_region, planned_tag}, Words.are_bytes}
+use Rattle.mac_coverage.{specs.{AttestedBytes.call_words, Coverage.{ends_finished, last_call, MacCoversCall}}, proofs.{Calls.{CallSoFar, before-last, earlier_records, entry_at}, Device.start_of, MacStored.{MacStands, mac-is}, Passes.{decision_words, mac_count, words_written}, WordPlan.{Plan, first_mac_words, planned_decision, planned_region, planned_tag}, Words.are_bytes}}
 
 -- the words of the MAC that are written, and the others
 few_words : (plan : Plan) (count : ℕ) → count ≤ 16

@@ -1,6 +1,5 @@
 -- A device with a key of 64 bytes and an image of bytes, and what a call reads in it.
-use Rattle.std.proofs.{Common.{◌≡◌, ℕ, ◌+◌, ◌-◌, ◌*◌, ◌/◌, ◌%◌, ◌<◌, ◌≤◌, true, false, List, Some, length, ap, ◌∙◌, arith, [], ◌∷◌, Option, None}, lemmas.Bool.{and_right, cond-true, cond-false, lt-leb, cond_both, Decides.nat_tests}}
-use Rattle.std.specs.Prelude.{Bool, nat_le, slice_index, ◌==◌, ◌&&◌, if◌then◌else◌}
+use Rattle.std.{proofs.{Common.{◌≡◌, ℕ, ◌+◌, ◌-◌, ◌*◌, ◌/◌, ◌%◌, ◌<◌, ◌≤◌, true, false, List, Some, length, ap, ◌∙◌, arith, [], ◌∷◌, Option, None}, lemmas.Bool.{and_right, cond-true, cond-false, lt-leb, cond_both, Decides.nat_tests}}, specs.Prelude.{Bool, nat_le, slice_index, ◌==◌, ◌&&◌, if◌then◌else◌}}
 use Rattle.word_arith.specs.declared.size.Size.TheVariants.{Word, Byte}
 use Rattle.device_types.specs.{Map.{lies_in, key_region, peripheral_region, rom_region, AUX_WORD, EXEC_WORD, ROM_EXIT}, ExecFlag.SeenRecord, declared.{access.Access.{Access, TheVariants.{Fetch, Read, Write}}, rule.Rule.Rule}}
 use Rattle.part_definitions.specs.{BusAccess.read_at, Attestation.word_of_bytes, Memory.{takes_write, MemoryWrite, PowerOn, ShownFlags, first_byte, fixed_byte, is_image_place, last_written, rom_byte, with_access}}

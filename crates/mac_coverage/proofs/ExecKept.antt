@@ -1,11 +1,7 @@
 -- A step of the ROM after another leaves the EXEC flag.
-use Rattle.std.proofs.Common.{◌≡◌, ℕ, Bool, true, false, not, List, [], ◌∷◌, ◌++◌, append-nil, Option, Some, None, refl, ap, sym, ◌∙◌}
-use Rattle.std.specs.Prelude.{◌==◌, ◌&&◌, ◌||◌, is_some, option_to_list, if◌then◌else◌}
-use Rattle.std.specs.List.{list_any}
-use Rattle.std.proofs.lemmas.Bool.{and_left, and_right, false_from_ne_true, or_from}
-use Rattle.device_types.specs.{declared.{access.Access.Access, bus_record.BusRecord.BusRecord, kind.Kind.TheVariants.Rom, region.Region.Region, rule.Rule.Rule}, Access.{is_write, some_writes}, Bounds.{are_valid, executable_region, output_region}, Kind.is_cpu, Map.{some_touches, touches, metadata_region}, ExecFlag.{SeenRecord, accesses_in, writes_to, runs_inside, ran_inside, fetches_at, clears_e1, clears_e2, clears_e3, clears_e4, clears_e5, clears_e6, clears_e7, clears_e8, clears_e9, clears_both, clears, starts_run, last_pc, records_since, exec}}
+use Rattle.std.{proofs.{Common.{◌≡◌, ℕ, Bool, true, false, not, List, [], ◌∷◌, ◌++◌, append-nil, Option, Some, None, refl, ap, sym, ◌∙◌}, lemmas.Bool.{and_left, and_right, false_from_ne_true, or_from}}, specs.{Prelude.{◌==◌, ◌&&◌, ◌||◌, is_some, option_to_list, if◌then◌else◌}, List.list_any}}
+use Rattle.device_types.{specs.{declared.{access.Access.Access, bus_record.BusRecord.BusRecord, kind.Kind.TheVariants.Rom, region.Region.Region, rule.Rule.Rule}, Access.{is_write, some_writes}, Bounds.{are_valid, executable_region, output_region}, Kind.is_cpu, Map.{some_touches, touches, metadata_region}, ExecFlag.{SeenRecord, accesses_in, writes_to, runs_inside, ran_inside, fetches_at, clears_e1, clears_e2, clears_e3, clears_e4, clears_e5, clears_e6, clears_e7, clears_e8, clears_e9, clears_both, clears, starts_run, last_pc, records_since, exec}}, proofs.ValidRange.{AreValidRanges, are_valid-ranges}}
 use Rattle.part_definitions.specs.MonitorRule.{in_rom, leaves_stack_and_mac}
-use Rattle.device_types.proofs.ValidRange.{AreValidRanges, are_valid-ranges}
 use Rattle.trace_facts.proofs.BoundsStay.{writes_nowhere}
 use Rattle.mac_coverage.proofs.ValidPlaces.{rom_outside, writes_outside, writes_off_metadata}
 

@@ -1,14 +1,10 @@
 -- The kept counter in memory, before and after an access of a call.
-use Rattle.std.proofs.Common.{◌≡◌, ℕ, ◌+◌, ◌*◌, ◌/◌, ◌%◌, ◌<◌, ◌≤◌, true, false, List, [], ◌∷◌, ◌++◌, take, drop, length, Option, Some, refl, ap, sym, ◌∙◌, arith}
-use Rattle.std.specs.Prelude.{nat_lt, slice_index}
-use Rattle.std.proofs.lemmas.Bool.{cond-true, cond-false, le-ltb, lt-ltb, ne_eqb}
-use Rattle.std.proofs.lemmas.Bool.Decides.{nat_tests}
+use Rattle.std.{proofs.{Common.{◌≡◌, ℕ, ◌+◌, ◌*◌, ◌/◌, ◌%◌, ◌<◌, ◌≤◌, true, false, List, [], ◌∷◌, ◌++◌, take, drop, length, Option, Some, refl, ap, sym, ◌∙◌, arith}, lemmas.Bool.{cond-true, cond-false, le-ltb, lt-ltb, ne_eqb, Decides.nat_tests}}, specs.Prelude.{nat_lt, slice_index}}
 use Rattle.word_arith.specs.declared.size.Size.TheVariants.{Word}
 use Rattle.device_types.specs.declared.access.Access.{Access}
 use Rattle.part_definitions.specs.{BusAccess.write_at, Attestation.word_of_bytes, Memory.{MemoryWrite, PowerOn, ShownFlags, byte_at, first_byte, is_flag_word, takes_write, with_access}, Metadata.kept_bytes}
 use Rattle.trace_facts.proofs.BoundsStay.{MissesPlace, last_written-missed}
-use Rattle.mac_coverage.specs.Coverage.{kept_within}
-use Rattle.mac_coverage.proofs.WordPlan.{IsCounter}
+use Rattle.mac_coverage.{specs.Coverage.kept_within, proofs.WordPlan.IsCounter}
 
 -- in memories that are equal at its four places
 pub kept-same : (left right : ℕ → ℕ)

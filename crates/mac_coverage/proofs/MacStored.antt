@@ -1,8 +1,5 @@
 -- The words that a call wrote to the MAC stand in memory.
-use Rattle.std.proofs.Common.{◌≡◌, ℕ, zero, suc, ◌+◌, ◌*◌, ◌/◌, ◌%◌, ◌<◌, ◌≤◌, true, false, List, [], ◌∷◌, inl, inr, Some, length, refl, ap, sym, ◌∙◌, arith}
-use Rattle.std.specs.Prelude.{◌==◌, slice_index, if◌then◌else◌}
-use Rattle.std.proofs.lemmas.Bool.{cases_eq, cases_lt, cond-true, cond-false, eq-eqb, ne_eqb}
-use Rattle.std.proofs.lemmas.Bool.Decides.{nat_tests}
+use Rattle.std.{proofs.{Common.{◌≡◌, ℕ, zero, suc, ◌+◌, ◌*◌, ◌/◌, ◌%◌, ◌<◌, ◌≤◌, true, false, List, [], ◌∷◌, inl, inr, Some, length, refl, ap, sym, ◌∙◌, arith}, lemmas.Bool.{cases_eq, cases_lt, cond-true, cond-false, eq-eqb, ne_eqb, Decides.nat_tests}}, specs.Prelude.{◌==◌, slice_index, if◌then◌else◌}}
 use Rattle.word_arith.specs.declared.size.Size.TheVariants.{Word}
 use Rattle.part_definitions.specs.{BusAccess.write_at, Attestation.word_of_bytes, Memory.{MemoryWrite, PowerOn, ShownFlags, byte_at, bytes_from, first_byte, is_flag_word, last_written, takes_write, with_access, with_bytes}}
 use Rattle.mac_coverage.proofs.Words.{AreBytes}

@@ -1,15 +1,10 @@
 -- A step that writes to the exclusive stack and to the MAC alone leaves what is attested.
-use Rattle.std.proofs.Common.{◌≡◌, ℕ, ◌+◌, ◌-◌, ◌*◌, ◌/◌, ◌<◌, Bool, true, false, not, List, [], ◌++◌, take, drop, inl, inr, Option, Some, None, refl, ap, sym, ◌∙◌, arith}
-use Rattle.std.specs.Prelude.{◌==◌, ◌&&◌, ◌||◌, if◌then◌else◌}
-use Rattle.std.proofs.lemmas.Bool.{cases_Bool, cond-false, eqb-true, false_from_ne_true}
-use Rattle.std.proofs.lemmas.Bool.Decides.{nat_tests}
+use Rattle.std.{proofs.{Common.{◌≡◌, ℕ, ◌+◌, ◌-◌, ◌*◌, ◌/◌, ◌<◌, Bool, true, false, not, List, [], ◌++◌, take, drop, inl, inr, Option, Some, None, refl, ap, sym, ◌∙◌, arith}, lemmas.Bool.{cases_Bool, cond-false, eqb-true, false_from_ne_true, Decides.nat_tests}}, specs.Prelude.{◌==◌, ◌&&◌, ◌||◌, if◌then◌else◌}}
 use Rattle.word_arith.specs.declared.size.Size.TheVariants.{Byte, Word}
-use Rattle.device_types.specs.{declared.{access.Access.{Access, TheVariants.{Fetch, Read, Write}}, bounds.Bounds.Bounds}, Access.some_writes, Bounds.are_valid, Map.{lies_in, key_region, metadata_region, rom_region, AUX_WORD, EXEC_WORD}}
+use Rattle.device_types.{specs.{declared.{access.Access.{Access, TheVariants.{Fetch, Read, Write}}, bounds.Bounds.Bounds}, Access.some_writes, Bounds.are_valid, Map.{lies_in, key_region, metadata_region, rom_region, AUX_WORD, EXEC_WORD}}, proofs.ValidRange.{AreValidRanges, IsValidRange, are_valid-ranges}}
 use Rattle.part_definitions.specs.{Memory.{MemoryWrite, PowerOn, ShownFlags, byte_at, first_byte, fixed_byte, is_flag_word, last_written, rom_byte, takes_write, with_access, bytes_from}, Metadata.bounds_in, MonitorRule.{is_written_by_rom, leaves_stack_and_mac}, Region.{bounded_bytes, bytes_between, metadata_bytes, rest_bytes}}
 use Rattle.trace_facts.proofs.BoundsStay.{MissesPlace, last_written-missed}
-use Rattle.mac_coverage.specs.AttestedBytes.{attested_bytes_in, without_flag_words}
-use Rattle.device_types.proofs.ValidRange.{AreValidRanges, IsValidRange, are_valid-ranges}
-use Rattle.mac_coverage.proofs.{ValidPlaces.{IsFreePlace, range-free}, Words.{bytes_from-same, take-bytes_from}}
+use Rattle.mac_coverage.{specs.AttestedBytes.{attested_bytes_in, without_flag_words}, proofs.{ValidPlaces.{IsFreePlace, range-free}, Words.{bytes_from-same, take-bytes_from}}}
 
 -- the byte written last to a place where the ROM does not write
 byte_elsewhere : (place p : ℕ) → is_written_by_rom p ≡ false

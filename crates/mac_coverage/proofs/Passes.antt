@@ -1,15 +1,10 @@
 -- The word that passes in a step of a call is the planned one.
-use Rattle.std.proofs.Common.{◌≡◌, ℕ, zero, suc, ◌+◌, ◌-◌, ◌*◌, ◌/◌, ◌<◌, ◌≤◌, true, false, List, [], ◌∷◌, ◌++◌, length, Some, inl, inr, refl, ap, sym, subst, ◌∙◌, arith}
-use Rattle.std.specs.Prelude.{nat_lt, if◌then◌else◌}
-use Rattle.std.proofs.lemmas.Bool.{cases_lt, cond-true, cond-false, le-ltb, lt-ltb}
-use Rattle.std.proofs.lemmas.Bool.Decides.{nat_tests}
-use Rattle.std.proofs.lemmas.List.{append_assoc}
+use Rattle.std.{proofs.{Common.{◌≡◌, ℕ, zero, suc, ◌+◌, ◌-◌, ◌*◌, ◌/◌, ◌<◌, ◌≤◌, true, false, List, [], ◌∷◌, ◌++◌, length, Some, inl, inr, refl, ap, sym, subst, ◌∙◌, arith}, lemmas.{Bool.{cases_lt, cond-true, cond-false, le-ltb, lt-ltb, Decides.nat_tests}, List.append_assoc}}, specs.Prelude.{nat_lt, if◌then◌else◌}}
 use Rattle.word_arith.specs.declared.size.Size.TheVariants.{Word}
 use Rattle.device_types.specs.{declared.{access.Access.Access, bounds.Bounds.Bounds}, Map.{lies_in, mac_region}}
 use Rattle.part_definitions.specs.{BusAccess.{read_at, write_at}, Attestation.{CallItem, KeyRead, MetadataRead, KeptRead, KeptWrite, DecisionWrite, DerivedKeyWrite, RegionRead, InnerDigestWrite, MacWrite, ReturnRead, bounds_read, is_return, item_access, region_place, word_of_bytes, written_word, word_passed}, Memory.{MemoryWrite, PowerOn, ShownFlags, byte_at, with_access}, Metadata.{bounds_in, kept_bytes}, Region.bounded_bytes}
 use Rattle.device_trace.specs.{Logs.{Logs, logged_byte, with_released_word}, Signals.value_read}
-use Rattle.mac_coverage.specs.{AttestedBytes.{AttestedBytes, attested_bytes_in}, Coverage.kept_within}
-use Rattle.mac_coverage.proofs.{AttestedIs.{IsWordAt, bounds-attested, rest-word}, Device.{start_of, key_word-read, word-read}, KeptStored.{high-put, kept-early, kept-late, kept-missed, low-put, word-misses}, MacStored.{MacStands, mac-more}, WordPlan.{ArePlanned, IsAttested, IsCounter, Plan, attested_bounds, attested_words, bounds_read-planned, counter_word-planned, decision_in-planned, first_mac_words, first_mac_words-more, planned_counter, planned_counter-is, planned_decision, planned_item, planned_region, planned_tag, tag_in-planned}, Words.{AreBytes, word-bytes_from}}
+use Rattle.mac_coverage.{specs.{AttestedBytes.{AttestedBytes, attested_bytes_in}, Coverage.kept_within}, proofs.{AttestedIs.{IsWordAt, bounds-attested, rest-word}, Device.{start_of, key_word-read, word-read}, KeptStored.{high-put, kept-early, kept-late, kept-missed, low-put, word-misses}, MacStored.{MacStands, mac-more}, WordPlan.{ArePlanned, IsAttested, IsCounter, Plan, attested_bounds, attested_words, bounds_read-planned, counter_word-planned, decision_in-planned, first_mac_words, first_mac_words-more, planned_counter, planned_counter-is, planned_decision, planned_item, planned_region, planned_tag, tag_in-planned}, Words.{AreBytes, word-bytes_from}}}
 use Rattle.trace_facts.proofs.{CallPlaces.{mac_place, IsItemAt}, BoundsStay.MissesPlace}
 
 -- how many words of the MAC are written when so many words passed

@@ -1,14 +1,10 @@
 -- The next step of a play, where it is one of the ROM.
-use Rattle.std.proofs.Common.{◌≡◌, ℕ, ◌≤◌, true, false, List, [], ◌∷◌, None, length, refl, ap, sym, ◌∙◌, subst}
-use Rattle.std.specs.Prelude.{◌==◌, Option, Some}
-use Rattle.std.proofs.lemmas.Bool.{cond-false, cond-true}
+use Rattle.std.{proofs.{Common.{◌≡◌, ℕ, ◌≤◌, true, false, List, [], ◌∷◌, None, length, refl, ap, sym, ◌∙◌, subst}, lemmas.Bool.{cond-false, cond-true}}, specs.Prelude.{◌==◌, Option, Some}}
 use Rattle.device_types.specs.{declared.{access.Access.{Access, TheVariants.{Fetch, Read, Write}}, bus_record.BusRecord.BusRecord, event.Event.Event, kind.Kind.TheVariants.Rom}, Map.ROM_ENTRY, ExecFlag.last_pc}
-use Rattle.part_definitions.specs.Attestation.{call_item, item_pc}
+use Rattle.part_definitions.{specs.Attestation.{call_item, item_pc}, proofs.BytesFrom.length-bytes_from}
 use Rattle.device_trace.specs.{Trace.{Play, byte_after, logs_after, trace}, Logs.{step_progress, with_events, with_record}, Progress.{InCall, next_pc_of}, Signals.step_kind, Step.{asks_reset, next_record}}
 use Rattle.trace_facts.proofs.ExecFlag.{logs_after-valid}
-use Rattle.mac_coverage.specs.{AttestedBytes.{AttestedBytes, without_flag_words}, Coverage.{begins_call, last_call, attested_after, kept_after}}
-use Rattle.mac_coverage.proofs.{Calls.{CallSoFar, call-begins, earlier_records, entry_at, log_at}, Device.{Device, start_of, start_of-bytes, byte_after-byte}, ExecKept.IsRomStep, MemoryKept.{attested-but_flags, attested-same}, WordPlan.{IsCounter, Plan}, Words.bytes_from-are, Steps.{IsCallStep, IsInRom, OnCall, bytes-alike, bytes-same, record_of-call, record_of-kind, record_of-pc}}
-use Rattle.part_definitions.proofs.BytesFrom.{length-bytes_from}
+use Rattle.mac_coverage.{specs.{AttestedBytes.{AttestedBytes, without_flag_words}, Coverage.{begins_call, last_call, attested_after, kept_after}}, proofs.{Calls.{CallSoFar, call-begins, earlier_records, entry_at, log_at}, Device.{Device, start_of, start_of-bytes, byte_after-byte}, ExecKept.IsRomStep, MemoryKept.{attested-but_flags, attested-same}, WordPlan.{IsCounter, Plan}, Words.bytes_from-are, Steps.{IsCallStep, IsInRom, OnCall, bytes-alike, bytes-same, record_of-call, record_of-kind, record_of-pc}}}
 
 -- the last record wrote the high word of the kept counter
 abbrev pub WritesHighWord : Option Access → Type 0

@@ -1,13 +1,10 @@
 -- In every play the MAC covers the last call.
-use Rattle.std.proofs.{Common.{◌≡◌, ℕ, ◌<◌, Bool, true, false, List, [], ◌∷◌, inl, inr, Option, Some, None, length, refl, ap, sym, ◌∙◌, arith, ◌+◌, ◌≤◌, ◌++◌, subst}, lemmas.{Bool.{and_parts, cases_Bool, and_from, and_right, cases_lt, cond-false, cond-true, lt-ltb}, List.length_push}}
-use Rattle.std.specs.Prelude.{◌==◌, ◌&&◌, is_none, is_some, IsTrue, nat_lt, if◌then◌else◌}
+use Rattle.std.{proofs.{Common.{◌≡◌, ℕ, ◌<◌, Bool, true, false, List, [], ◌∷◌, inl, inr, Option, Some, None, length, refl, ap, sym, ◌∙◌, arith, ◌+◌, ◌≤◌, ◌++◌, subst}, lemmas.{Bool.{and_parts, cases_Bool, and_from, and_right, cases_lt, cond-false, cond-true, lt-ltb}, List.length_push}}, specs.Prelude.{◌==◌, ◌&&◌, is_none, is_some, IsTrue, nat_lt, if◌then◌else◌}}
 use Rattle.device_types.specs.{declared.{bus_record.BusRecord.BusRecord, kind.Kind.{Kind, TheVariants.{Boot, Cpu, Idle, Irq, Rom}}, rule.Rule.Rule, access.Access.Access, event.Event.Event}, Kind.is_rom, Map.{ROM_EXIT, ROM_ENTRY}, Report.ReportFields, ExecFlag.SeenHistory, Address.{Bytes, Contents}}
-use Rattle.part_definitions.specs.{Metadata.{counter_bytes, little_endian}, Region.mac_bytes, Request.ATTESTS, Hmac.Digest, Attestation.{CallItem, KeptWrite, bounds_read, call_item, decision_read, is_return, item_access, region_words}, CpuRegister.sp_of}
+use Rattle.part_definitions.{specs.{Metadata.{counter_bytes, little_endian}, Region.mac_bytes, Request.ATTESTS, Hmac.Digest, Attestation.{CallItem, KeptWrite, bounds_read, call_item, decision_read, is_return, item_access, region_words}, CpuRegister.sp_of}, proofs.CallItems.{first_pc, item_after}}
 use Rattle.device_trace.specs.{Trace.{Play, byte_after, logs_after, trace}, Logs.{Logs, progress_after, step_progress, vector_of, with_events, with_record, call_decision, finishes_call}, Signals.{step_kind, signals_at}, Start.{Start, with_key}, Step.{next_record, record_of, asks_reset}, Text.{last_decision, last_report}, Progress.{Progress, InCall, after_return}}
-use Rattle.mac_coverage.specs.{AttestedBytes.{tag_of, AttestedBytes}, Coverage.{ends_finished, ends_in_call, ends_refused, last_call, Gives32Bytes, IsDeviceKey, IsOfBytes, MacCoversCall, MacCoversReport, attested_after, begins_call, mac_written, kept_after}}
-use Rattle.mac_coverage.proofs.{Covers.{decision_after-finishes, covers_refused, covers_so_far}, Device.{Device, start_of}, Calls.{entry_at, log_at, CallGoes, CallSoFar, call-goes_on, call-returns, earlier_records, return-is_last, word_in}, PlaySteps.{CallGoesOn, PlayStands, entry-kind, IsTurnOfCall, LastWroteHighWord, WritesHighWord, all_earlier, after_step-alike, after_step-same, entry-pc, entry-step, first_step, last-in_rom, later_step, none_earlier, plan_of}, Steps.{OnCall, other_step-no_call, IsCallStep, IsOfCall, progress-call_step, rom_step-of_call}, Words.are_bytes, CallItems.{exit_returns, high_word_item, only_first_enters}, Passes.{decision_words, mac_count, words_written}, WordPlan.{ArePlanned, Plan, call_item-planned, decision_read-planned, first_mac_words, planned_decision, planned_region}}
+use Rattle.mac_coverage.{specs.{AttestedBytes.{tag_of, AttestedBytes}, Coverage.{ends_finished, ends_in_call, ends_refused, last_call, Gives32Bytes, IsDeviceKey, IsOfBytes, MacCoversCall, MacCoversReport, attested_after, begins_call, mac_written, kept_after}}, proofs.{Covers.{decision_after-finishes, covers_refused, covers_so_far}, Device.{Device, start_of}, Calls.{entry_at, log_at, CallGoes, CallSoFar, call-goes_on, call-returns, earlier_records, return-is_last, word_in}, PlaySteps.{CallGoesOn, PlayStands, entry-kind, IsTurnOfCall, LastWroteHighWord, WritesHighWord, all_earlier, after_step-alike, after_step-same, entry-pc, entry-step, first_step, last-in_rom, later_step, none_earlier, plan_of}, Steps.{OnCall, other_step-no_call, IsCallStep, IsOfCall, progress-call_step, rom_step-of_call}, Words.are_bytes, CallItems.{exit_returns, high_word_item, only_first_enters}, Passes.{decision_words, mac_count, words_written}, WordPlan.{ArePlanned, Plan, call_item-planned, decision_read-planned, first_mac_words, planned_decision, planned_region}}}
 use Rattle.trace_facts.proofs.{LastReport.last_report-made, ExecFlag.none_there}
-use Rattle.part_definitions.proofs.CallItems.{first_pc, item_after}
 
 -- What a step of the ROM leads to.
 

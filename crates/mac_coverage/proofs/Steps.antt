@@ -1,7 +1,5 @@
 -- The record of a step of a call, and what the step leaves.
-use Rattle.std.proofs.Common.{◌≡◌, ℕ, Bool, true, false, not, List, [], ◌∷◌, ◌⊎◌, inl, inr, Option, Some, None, length, refl, ap, sym, ◌∙◌, arith}
-use Rattle.std.specs.Prelude.{◌==◌, ◌&&◌, is_none, is_some, map}
-use Rattle.std.proofs.lemmas.Bool.{and_from, cond-true}
+use Rattle.std.{proofs.{Common.{◌≡◌, ℕ, Bool, true, false, not, List, [], ◌∷◌, ◌⊎◌, inl, inr, Option, Some, None, length, refl, ap, sym, ◌∙◌, arith}, lemmas.Bool.{and_from, cond-true}}, specs.Prelude.{◌==◌, ◌&&◌, is_none, is_some, map}}
 use Rattle.device_types.specs.{declared.{access.Access.Access, bus_record.BusRecord.BusRecord, kind.Kind.{Kind, TheVariants.{Boot, Cpu, Idle, Irq, Rom}}, rule.Rule.Rule, signals.Signals.Signals}, Access.some_writes, Kind.is_rom, Map.ROM_ENTRY, ExecFlag.{SeenRecord, last_pc}}
 use Rattle.part_definitions.specs.{Attestation.{call_item, word_passed}, CpuState.{Boundary, Executing, Entering}, FirstRule.first_rule, Memory.{MemoryWrite, ShownFlags, byte_at, is_flag_word, with_access}, MonitorRule.{in_rom, is_written_by_rom, leaves_stack_and_mac}}
 use Rattle.device_trace.specs.{Blank.blank_seen, Logs.{Logs, aux_of, exec_of, flags_of, goes_on_in_call, logged_bounds, logged_byte, memory_after, progress_after, records_until_call, step_progress, with_record}, Progress.{Progress, Held, Runs, InCall, access_of, call_access, call_after, kind_of, last_registers, next_pc_of, next_progress, progress_from_boundary, progress_within}, Signals.{signals_at, signals_of, step_kind, value_read}, Start.Start, Step.{dma_value_read, record_from, record_of}}

@@ -1,11 +1,7 @@
 -- The places of a valid region: the ROM does not write there, and neither the metadata nor the code
 -- of the ROM are there.
-use Rattle.std.proofs.Common.{◌≡◌, ℕ, ◌+◌, ◌%◌, ◌^◌, ◌<◌, ◌≤◌, Bool, true, false, not, List, [], ◌∷◌, ◌⊎◌, inl, inr, refl, sym, ◌∙◌, arith}
-use Rattle.std.specs.Prelude.{◌&&◌, nat_le}
-use Rattle.std.specs.List.{list_any}
-use Rattle.std.proofs.lemmas.Bool.{and_parts, or_cases, or_parts, or_from, not-false, leb-true, lt-leb, and_left, and_right, false_from_ne_true}
-use Rattle.device_types.specs.{declared.access.Access.Access, Access.bytes_of, Bounds.words_region, Map.{lies_in, touches, mac_region, metadata_region, stack_region}}
-use Rattle.device_types.proofs.ValidRange.{IsValidRange}
+use Rattle.std.{proofs.{Common.{◌≡◌, ℕ, ◌+◌, ◌%◌, ◌^◌, ◌<◌, ◌≤◌, Bool, true, false, not, List, [], ◌∷◌, ◌⊎◌, inl, inr, refl, sym, ◌∙◌, arith}, lemmas.Bool.{and_parts, or_cases, or_parts, or_from, not-false, leb-true, lt-leb, and_left, and_right, false_from_ne_true}}, specs.{Prelude.{◌&&◌, nat_le}, List.list_any}}
+use Rattle.device_types.{specs.{declared.access.Access.Access, Access.bytes_of, Bounds.words_region, Map.{lies_in, touches, mac_region, metadata_region, stack_region}}, proofs.ValidRange.IsValidRange}
 use Rattle.part_definitions.specs.{Memory.is_flag_word, MonitorRule.{in_rom, is_written_by_rom}}
 
 -- of a place in a valid region

@@ -1,15 +1,8 @@
 -- The words that pass in a call, as what is attested and the kept counter determine them.
-use Rattle.std.proofs.Common.{◌≡◌, ℕ, ◌+◌, ◌-◌, ◌*◌, ◌<◌, ◌≤◌, Bool, true, false, List, [], ◌∷◌, ◌++◌, take, drop, length, inl, inr, refl, ap, sym, ◌∙◌, arith}
-use Rattle.std.specs.Prelude.{◌==◌, map, slice_index, if◌then◌else◌}
-use Rattle.std.specs.List.{range_with_len}
-use Rattle.std.proofs.lemmas.Bool.{cases_lt}
-use Rattle.std.proofs.lemmas.List.{length-drop, length-take-le, get_or-take, get_or-drop, get_or_append_left, get_or_past, get_or_push, length_push}
-use Rattle.std.proofs.lemmas.List.FromFn.{map-range_with_len_more}
+use Rattle.std.{proofs.{Common.{◌≡◌, ℕ, ◌+◌, ◌-◌, ◌*◌, ◌<◌, ◌≤◌, Bool, true, false, List, [], ◌∷◌, ◌++◌, take, drop, length, inl, inr, refl, ap, sym, ◌∙◌, arith}, lemmas.{Bool.cases_lt, List.{length-drop, length-take-le, get_or-take, get_or-drop, get_or_append_left, get_or_past, get_or_push, length_push, FromFn.map-range_with_len_more}}}, specs.{Prelude.{◌==◌, map, slice_index, if◌then◌else◌}, List.range_with_len}}
 use Rattle.device_types.specs.declared.bounds.Bounds.{Bounds}
-use Rattle.part_definitions.specs.{Attestation.{CallItem, KeyRead, MetadataRead, KeptRead, KeptWrite, DecisionWrite, DerivedKeyWrite, RegionRead, InnerDigestWrite, MacWrite, ReturnRead, attestation_tag, bounds_read, bytes_of_words, call_item, counter_word, decision_in, decision_read, kept_read, key_read, metadata_read, region_read, region_words, tag_in, word_of_bytes}, Metadata.counter_in, Request.{ATTESTS, request_decision}}
-use Rattle.part_definitions.proofs.CallItems.{item_after}
-use Rattle.mac_coverage.specs.AttestedBytes.{AttestedBytes, counter_left, decision_of, tag_of}
-use Rattle.mac_coverage.proofs.{CallItems.{decision_item, item_after-early, kept_item, key_item, metadata_item, region_item}, Device.Device, Words.{AreBytes, bytes_of_words-read}}
+use Rattle.part_definitions.{specs.{Attestation.{CallItem, KeyRead, MetadataRead, KeptRead, KeptWrite, DecisionWrite, DerivedKeyWrite, RegionRead, InnerDigestWrite, MacWrite, ReturnRead, attestation_tag, bounds_read, bytes_of_words, call_item, counter_word, decision_in, decision_read, kept_read, key_read, metadata_read, region_read, region_words, tag_in, word_of_bytes}, Metadata.counter_in, Request.{ATTESTS, request_decision}}, proofs.CallItems.item_after}
+use Rattle.mac_coverage.{specs.AttestedBytes.{AttestedBytes, counter_left, decision_of, tag_of}, proofs.{CallItems.{decision_item, item_after-early, kept_item, key_item, metadata_item, region_item}, Device.Device, Words.{AreBytes, bytes_of_words-read}}}
 
 -- the bounds in the metadata, and how many words of the region they name
 abbrev pub attested_bounds : AttestedBytes → Bounds

@@ -1,8 +1,5 @@
 -- Bytes and words as lists.
-use Rattle.std.proofs.Common.{◌≡◌, ℕ, zero, suc, ◌+◌, ◌*◌, ◌/◌, ◌%◌, ◌<◌, ◌≤◌, List, [], ◌∷◌, take, length, inl, inr, refl, ap, sym, ◌∙◌, arith}
-use Rattle.std.specs.Prelude.{All, slice_index}
-use Rattle.std.proofs.lemmas.Bool.{cases_lt}
-use Rattle.std.proofs.lemmas.List.{get_or_past}
+use Rattle.std.{proofs.{Common.{◌≡◌, ℕ, zero, suc, ◌+◌, ◌*◌, ◌/◌, ◌%◌, ◌<◌, ◌≤◌, List, [], ◌∷◌, take, length, inl, inr, refl, ap, sym, ◌∙◌, arith}, lemmas.{Bool.cases_lt, List.get_or_past}}, specs.Prelude.{All, slice_index}}
 use Rattle.part_definitions.specs.{Attestation.{bytes_of_words, word_of_bytes}, Memory.bytes_from}
 
 -- every number is a byte

@@ -1,6 +1,5 @@
 -- What a MAC is of, and what a call decides and writes on it.
-use Rattle.std.specs.Prelude.{◌==◌, ◌-◌, ◌++◌, List, [], ◌∷◌, map, take, drop, if◌then◌else◌}
-use Rattle.std.specs.List.{range_with_len}
+use Rattle.std.specs.{Prelude.{◌==◌, ◌-◌, ◌++◌, List, [], ◌∷◌, map, take, drop, if◌then◌else◌}, List.range_with_len}
 use Rattle.word_arith.specs.Number.{Word16}
 use Rattle.device_types.specs.{Map.{EXEC_WORD, COUNTER, metadata_region}, Address.{Contents, Bytes}}
 use Rattle.part_definitions.specs.{Attestation.{attestation_tag, word_of_bytes}, Metadata.counter_in, Region.{metadata_bytes, rest_bytes}, Request.{ATTESTS, request_decision}, Hmac.Digest}

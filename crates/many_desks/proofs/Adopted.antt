@@ -1,15 +1,7 @@
 -- The last entry of a device after its memory adopted lines.
-use Rattle.std.proofs.Common.{◌≡◌, ◌∙◌, ℕ, List, [], ◌∷◌, Bool, true, false, Option, Some, None, ◌||◌, ◌&&◌, not, refl, sym, ap, inl, inr, arith}
-use Rattle.std.specs.Prelude.{if◌then◌else◌, option_map, map, nat_eq}
-use Rattle.std.specs.List.{AllByRecursion, All, filter}
-use Rattle.std.specs.Option.{is_none, is_some}
-use Rattle.std.specs.Str.{bytes_eq}
-use Rattle.std.proofs.lemmas.Bool.{cases_Bool}
-use Rattle.std.proofs.lemmas.List.Elements.{All-tail}
-use Rattle.std.proofs.lemmas.Slice.Eq.{bytes_eq-Decides}
+use Rattle.std.{proofs.{Common.{◌≡◌, ◌∙◌, ℕ, List, [], ◌∷◌, Bool, true, false, Option, Some, None, ◌||◌, ◌&&◌, not, refl, sym, ap, inl, inr, arith}, lemmas.{Bool.cases_Bool, List.Elements.All-tail, Slice.Eq.bytes_eq-Decides}}, specs.{Prelude.{if◌then◌else◌, option_map, map, nat_eq}, List.{AllByRecursion, All, filter}, Option.{is_none, is_some}, Str.bytes_eq}}
 use Rattle.text_scan.specs.declared.fault_kind.FaultKind.TheVariants.{Order, Place, Twice}
-use Rattle.desk_memory.specs.{Entry.{Entry, Home, home_of, last_in, owner_in, with_entries, with_entry}, Moving.{with_arrivals, adoption_fault, entry_on_arrival, entries_on_arrival, at_home, entries_of, has_not_come, is_behind, is_gone_to, is_here, is_needed, is_new_in, is_of_other, moved_lines}}
-use Rattle.desk_memory.proofs.Noted.{entry_is_last, last_of_more}
+use Rattle.desk_memory.{specs.{Entry.{Entry, Home, home_of, last_in, owner_in, with_entries, with_entry}, Moving.{with_arrivals, adoption_fault, entry_on_arrival, entries_on_arrival, at_home, entries_of, has_not_come, is_behind, is_gone_to, is_here, is_needed, is_new_in, is_of_other, moved_lines}}, proofs.Noted.{entry_is_last, last_of_more}}
 use Rattle.report_text.proofs.ReportWords.{other_bytes}
 use Rattle.many_desks.proofs.Worlds.{same_bytes}
 

@@ -1,16 +1,7 @@
 -- Lines that are adopted once, and once more.
-use Rattle.std.proofs.Common.{◌≡◌, ◌∙◌, ℕ, List, [], ◌∷◌, true, false, Option, Some, None, refl, sym, ap, inl, inr, arith, true≢false}
-use Rattle.std.specs.Prelude.{if◌then◌else◌, slice_index_or}
-use Rattle.std.specs.List.{All, AllByRecursion}
-use Rattle.std.specs.Str.{bytes_eq}
-use Rattle.std.proofs.lemmas.Bool.{cases_Bool}
-use Rattle.std.proofs.lemmas.Bool.Decides.{nat_tests}
-use Rattle.std.proofs.lemmas.List.Elements.{All-from_recursion, recursion_from_All}
-use Rattle.std.proofs.lemmas.Slice.Eq.{bytes_eq-Decides}
-use Rattle.desk_memory.specs.{Entry.{Entry, home_of, last_in, with_entries}, Moving.{with_arrivals, adoption_fault, entry_on_arrival, entries_on_arrival, came_by, entries_of, has_not_come, is_behind, is_new_in}}
-use Rattle.many_desks.specs.{Act.world_after, Law.entry_of_one, Moves.{AreAdoptedOnce, AreAlike, IsAdoptedAgain}}
-use Rattle.desk_memory.proofs.Noted.{last_named}
-use Rattle.many_desks.proofs.{Adopted.{AreAt, adopted_last, new_alike, not_behind, says_of_none}, Placed.{MovedTo, placed, view_of}, Token.settles}
+use Rattle.std.{proofs.{Common.{◌≡◌, ◌∙◌, ℕ, List, [], ◌∷◌, true, false, Option, Some, None, refl, sym, ap, inl, inr, arith, true≢false}, lemmas.{Bool.{cases_Bool, Decides.nat_tests}, List.Elements.{All-from_recursion, recursion_from_All}, Slice.Eq.bytes_eq-Decides}}, specs.{Prelude.{if◌then◌else◌, slice_index_or}, List.{All, AllByRecursion}, Str.bytes_eq}}
+use Rattle.desk_memory.{specs.{Entry.{Entry, home_of, last_in, with_entries}, Moving.{with_arrivals, adoption_fault, entry_on_arrival, entries_on_arrival, came_by, entries_of, has_not_come, is_behind, is_new_in}}, proofs.Noted.last_named}
+use Rattle.many_desks.{specs.{Act.world_after, Law.entry_of_one, Moves.{AreAdoptedOnce, AreAlike, IsAdoptedAgain}}, proofs.{Adopted.{AreAt, adopted_last, new_alike, not_behind, says_of_none}, Placed.{MovedTo, placed, view_of}, Token.settles}}
 
 refused : (desk : List ℕ) (entries : List Entry) (name : List ℕ) (line : Entry)
     → line.name ≡ name → is_behind line (last_in entries name) ≡ true

@@ -1,11 +1,8 @@
 -- What follows of where devices are.
-use Rattle.std.proofs.Common.{◌≡◌, ◌∙◌, ◌⊎◌, ℕ, List, [], ◌∷◌, ◌++◌, Option, Some, None, refl, sym, ap, subst, inl, inr}
-use Rattle.std.proofs.lemmas.List.{map-append}
+use Rattle.std.proofs.{Common.{◌≡◌, ◌∙◌, ◌⊎◌, ℕ, List, [], ◌∷◌, ◌++◌, Option, Some, None, refl, sym, ap, subst, inl, inr}, lemmas.List.map-append}
 use Rattle.desk_memory.specs.{Entry.{Entry, last_in}, declared.device_state.DeviceState.DeviceState}
-use Rattle.verifier_desk.specs.{DeskLine.{DeskLine, Own, desk_line_of, DeviceLine}, DeviceKey.{DeviceKey, key_named}, DeviceReply.answer_after, Replies.{DeskFields, answer_line, judge_at, lines_said, own_answer, own_line, own_lines, reply_to}, Judged.{JudgedLine, answer_to, entry_through, mark_of}, Law.{judged_at, judged_lines}, Run.Run}
-use Rattle.verifier_desk.proofs.{GoneOn.own_lines-append, Remembered.{IsKnown, line_known, state_known, entry_through-append}, Repeated.answer_is_repeated as of_one_device}
-use Rattle.many_desks.specs.{Act.{Act, AreAllowed, Serves, World, world_after}, Law.{AreAsOne, HasOneHome, IsAnsweredAsOne, IsAnsweredAlike, SayAlike, Serving, StartsAt, answer_of_one, entry_of_one, lines_before, lines_in, now_in}}
-use Rattle.many_desks.proofs.{Placed.{MovedTo, begun_here, placed, run_serves, view_of}, Through.{alike_state, alike_through}, Token.{here_says, one_home, says_as_one}, Worlds.same_bytes}
+use Rattle.verifier_desk.{specs.{DeskLine.{DeskLine, Own, desk_line_of, DeviceLine}, DeviceKey.{DeviceKey, key_named}, DeviceReply.answer_after, Replies.{DeskFields, answer_line, judge_at, lines_said, own_answer, own_line, own_lines, reply_to}, Judged.{JudgedLine, answer_to, entry_through, mark_of}, Law.{judged_at, judged_lines}, Run.Run}, proofs.{GoneOn.own_lines-append, Remembered.{IsKnown, line_known, state_known, entry_through-append}, Repeated.answer_is_repeated as of_one_device}}
+use Rattle.many_desks.{specs.{Act.{Act, AreAllowed, Serves, World, world_after}, Law.{AreAsOne, HasOneHome, IsAnsweredAsOne, IsAnsweredAlike, SayAlike, Serving, StartsAt, answer_of_one, entry_of_one, lines_before, lines_in, now_in}}, proofs.{Placed.{MovedTo, begun_here, placed, run_serves, view_of}, Through.{alike_state, alike_through}, Token.{here_says, one_home, says_as_one}, Worlds.same_bytes}}
 
 pub device_has_one_home : HasOneHome
 device_has_one_home start acts home name one other so allowed here too =

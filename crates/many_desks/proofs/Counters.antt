@@ -1,11 +1,8 @@
 -- The counters of many desks are those of one.
-use Rattle.std.proofs.Common.{◌≡◌, ◌∙◌, ◌⊎◌, ◌<◌, ℕ, List, [], ◌∷◌, ◌++◌, Option, refl, sym, subst, subst₂, inl, inr}
-use Rattle.std.specs.List.{All, Contains}
+use Rattle.std.{proofs.Common.{◌≡◌, ◌∙◌, ◌⊎◌, ◌<◌, ℕ, List, [], ◌∷◌, ◌++◌, Option, refl, sym, subst, subst₂, inl, inr}, specs.List.{All, Contains}}
 use Rattle.desk_memory.specs.Entry.{Entry, last_in}
-use Rattle.verifier_desk.specs.{Judged.JudgedLine, Law.{Descends, KeyCounter, accepted_counters, count_in, counters_in, judged_lines, outstanding_in, requested_counters}}
-use Rattle.verifier_desk.proofs.AcceptedOnce.{report_is_accepted_once as of_one_desk}
-use Rattle.many_desks.specs.{Act.{Act, Adopts, AreAllowed, Sends, Serves, World}, Counters.{NoneIsAcceptedTwice, accepted_in, requested_in}, Law.{SayAlike, StartsAt, entry_of_one, lines_in}}
-use Rattle.many_desks.proofs.{AsOne.run_begins, Through.{accepted-append, accepted_alike, requested-append, requested_alike}}
+use Rattle.verifier_desk.{specs.{Judged.JudgedLine, Law.{Descends, KeyCounter, accepted_counters, count_in, counters_in, judged_lines, outstanding_in, requested_counters}}, proofs.AcceptedOnce.report_is_accepted_once as of_one_desk}
+use Rattle.many_desks.{specs.{Act.{Act, Adopts, AreAllowed, Sends, Serves, World}, Counters.{NoneIsAcceptedTwice, accepted_in, requested_in}, Law.{SayAlike, StartsAt, entry_of_one, lines_in}}, proofs.{AsOne.run_begins, Through.{accepted-append, accepted_alike, requested-append, requested_alike}}}
 
 -- of a run that has a line of a device, or has none
 requested_as_one : (name : List ℕ) (one other : Option Entry) (lines : List JudgedLine)

@@ -1,15 +1,7 @@
 -- Under which name each key stands after acts.
-use Rattle.std.proofs.Common.{◌≡◌, ◌∙◌, ◌⊎◌, ℕ, List, [], ◌∷◌, Bool, true, false, Option, Some, None, ◌&&◌, not, refl, sym, ap, subst, inl, inr}
-use Rattle.std.proofs.lemmas.Option.{same_Some}
-use Rattle.std.specs.Prelude.{map}
-use Rattle.std.specs.List.{filter}
-use Rattle.std.specs.Option.{is_some}
-use Rattle.std.specs.Str.{bytes_eq}
-use Rattle.std.proofs.lemmas.Bool.{cases_Bool}
-use Rattle.std.proofs.lemmas.Slice.Eq.{bytes_eq-Decides}
+use Rattle.std.{proofs.{Common.{◌≡◌, ◌∙◌, ◌⊎◌, ℕ, List, [], ◌∷◌, Bool, true, false, Option, Some, None, ◌&&◌, not, refl, sym, ap, subst, inl, inr}, lemmas.{Option.same_Some, Bool.cases_Bool, Slice.Eq.bytes_eq-Decides}}, specs.{Prelude.map, List.filter, Option.is_some, Str.bytes_eq}}
 use Rattle.desk_memory.specs.{Entry.{Entry, Home, home_of, is_replaced, last_in, owner_in, with_entries, with_entry}, Moving.{with_arrivals, entries_on_arrival, at_home, with_departure, entries_of, gone_to, is_needed, moved_lines, with_gone}}
-use Rattle.many_desks.specs.Keys.{StandsUnder}
-use Rattle.many_desks.proofs.Worlds.{same_bytes}
+use Rattle.many_desks.{specs.Keys.StandsUnder, proofs.Worlds.same_bytes}
 
 -- an entry more
 pub added : (entries : List Entry) (new : Entry)

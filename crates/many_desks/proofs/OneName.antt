@@ -1,11 +1,8 @@
 -- No key is served under two names by all desks together.
-use Rattle.std.proofs.Common.{◌≡◌, ◌∙◌, ℕ, List, [], ◌∷◌, Bool, true, false, Option, Some, None, refl, sym, subst, inl, inr}
-use Rattle.std.specs.Prelude.{if◌then◌else◌}
+use Rattle.std.{proofs.Common.{◌≡◌, ◌∙◌, ℕ, List, [], ◌∷◌, Bool, true, false, Option, Some, None, refl, sym, subst, inl, inr}, specs.Prelude.if◌then◌else◌}
 use Rattle.desk_memory.specs.{DeviceState.is_new, Entry.{Entry, Note, entry_at, home_of, last_in, owner_in, with_entry}, Moving.{with_departure, entries_of}}
-use Rattle.verifier_desk.specs.{DeskLine.{DeskLine, TooLong, Silent, Foreign, Own, desk_line_of, DeviceLine}, KeyOwner.{IsFreeFor, KeysStandApart}, Noted.{entries_after, note_at, noted_of, with_noted}, Replies.{DeskFields, lines_said, state_at}, Run.Run}
-use Rattle.verifier_desk.proofs.{KeyOwners.{key_is_free, keys_are_kept, served_owns}, Remembered.{IsKnown, line_known}}
-use Rattle.many_desks.specs.{Act.{Act, Adopts, AreAllowed, IsAllowed, IsMove, MayAdopt, MayServe, Sends, Serves, WasMoved, World, desk_of, entries_by, world_after}, Keys.{NoKeyHasTwoNames, KeysAreSound, StandsUnder, WasServed}}
-use Rattle.many_desks.proofs.{KeyPairs.{owner_stands, stands_adopted, stands_departed, stands_own, stands_still, stood_adopted, stood_departed, stood_moved, stood_or_added, unowned}, Worlds.{changed_memory, other_memory, same_or_other}}
+use Rattle.verifier_desk.{specs.{DeskLine.{DeskLine, TooLong, Silent, Foreign, Own, desk_line_of, DeviceLine}, KeyOwner.{IsFreeFor, KeysStandApart}, Noted.{entries_after, note_at, noted_of, with_noted}, Replies.{DeskFields, lines_said, state_at}, Run.Run}, proofs.{KeyOwners.{key_is_free, keys_are_kept, served_owns}, Remembered.{IsKnown, line_known}}}
+use Rattle.many_desks.{specs.{Act.{Act, Adopts, AreAllowed, IsAllowed, IsMove, MayAdopt, MayServe, Sends, Serves, WasMoved, World, desk_of, entries_by, world_after}, Keys.{NoKeyHasTwoNames, KeysAreSound, StandsUnder, WasServed}}, proofs.{KeyPairs.{owner_stands, stands_adopted, stands_departed, stands_own, stands_still, stood_adopted, stood_departed, stood_moved, stood_or_added, unowned}, Worlds.{changed_memory, other_memory, same_or_other}}}
 
 -- a memory in which no key stands under two names
 abbrev IsSound : List Entry → Type 0

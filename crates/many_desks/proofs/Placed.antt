@@ -1,16 +1,8 @@
 -- Where each device is after acts.
-use Rattle.std.proofs.Common.{◌≡◌, ◌∙◌, ◌+◌, ℕ, List, [], ◌∷◌, true, false, Option, Some, None, refl, sym, ap, subst, inl, inr}
-use Rattle.std.specs.Prelude.{IfSome, option_map}
-use Rattle.std.specs.Option.{is_none, is_some}
-use Rattle.std.specs.Str.{bytes_eq}
-use Rattle.std.proofs.lemmas.Bool.{cases_Bool}
-use Rattle.std.proofs.lemmas.Slice.Eq.{bytes_eq-Decides}
-use Rattle.desk_memory.specs.{Entry.{Entry, Home, home_of, last_in}, Moving.{adoption_fault, with_departure, entries_of, gone_to, has_here, is_behind, is_here, moved_lines, with_gone}}
-use Rattle.desk_memory.proofs.Noted.{entry_is_last, last_named}
-use Rattle.verifier_desk.specs.{DeviceKey.{DeviceKey, key_named, first_gone}, Judged.{JudgedLine, entry_through}, Law.{judged_at, judged_lines}, Replies.own_lines, Run.Run}
-use Rattle.verifier_desk.proofs.Remembered.{entry_through-append, memory_has_states}
-use Rattle.many_desks.specs.{Act.{Act, Adopts, AreAllowed, IsMove, MayAdopt, MayServe, Sends, Serves, WasMoved, World, desk_of, entries_by, world_after}, Law.{IsLeft, StartsAt, entry_of_one, lines_in, note_of}}
-use Rattle.many_desks.proofs.{Adopted.{AreAt, adopted_elsewhere, adopted_last, last_has, last_of_own, moved_are_alike, moved_last, not_behind}, Token.{IsBehind, IsPlaced, SpeaksRightly, View, comes, goes, serves, speaks_rightly, stays}, Worlds.{changed_memory, other_memory, same_bytes, same_or_other}}
+use Rattle.std.{proofs.{Common.{◌≡◌, ◌∙◌, ◌+◌, ℕ, List, [], ◌∷◌, true, false, Option, Some, None, refl, sym, ap, subst, inl, inr}, lemmas.{Bool.cases_Bool, Slice.Eq.bytes_eq-Decides}}, specs.{Prelude.{IfSome, option_map}, Option.{is_none, is_some}, Str.bytes_eq}}
+use Rattle.desk_memory.{specs.{Entry.{Entry, Home, home_of, last_in}, Moving.{adoption_fault, with_departure, entries_of, gone_to, has_here, is_behind, is_here, moved_lines, with_gone}}, proofs.Noted.{entry_is_last, last_named}}
+use Rattle.verifier_desk.{specs.{DeviceKey.{DeviceKey, key_named, first_gone}, Judged.{JudgedLine, entry_through}, Law.{judged_at, judged_lines}, Replies.own_lines, Run.Run}, proofs.Remembered.{entry_through-append, memory_has_states}}
+use Rattle.many_desks.{specs.{Act.{Act, Adopts, AreAllowed, IsMove, MayAdopt, MayServe, Sends, Serves, WasMoved, World, desk_of, entries_by, world_after}, Law.{IsLeft, StartsAt, entry_of_one, lines_in, note_of}}, proofs.{Adopted.{AreAt, adopted_elsewhere, adopted_last, last_has, last_of_own, moved_are_alike, moved_last, not_behind}, Token.{IsBehind, IsPlaced, SpeaksRightly, View, comes, goes, serves, speaks_rightly, stays}, Worlds.{changed_memory, other_memory, same_bytes, same_or_other}}}
 use Rattle.report_text.proofs.ReportWords.{other_bytes}
 
 abbrev pub view_of : World → List ℕ → View

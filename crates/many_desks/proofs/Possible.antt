@@ -1,17 +1,8 @@
 -- What may be done.
-use Rattle.std.proofs.Common.{◌≡◌, ◌∙◌, ◌⊎◌, ◌+◌, ℕ, List, [], ◌∷◌, Bool, true, false, Option, Some, None, refl, sym, ap, subst, inl, inr, arith}
-use Rattle.std.specs.Prelude.{if◌then◌else◌, map, nat_lt}
-use Rattle.std.specs.List.{AllByRecursion}
-use Rattle.std.specs.Str.{bytes_eq}
-use Rattle.std.proofs.lemmas.Bool.{cases_Bool}
-use Rattle.std.proofs.lemmas.Bool.Decides.{nat_tests}
-use Rattle.std.proofs.lemmas.List.Elements.{All-from_recursion}
-use Rattle.std.proofs.lemmas.Slice.Eq.{bytes_eq-Decides}
+use Rattle.std.{proofs.{Common.{◌≡◌, ◌∙◌, ◌⊎◌, ◌+◌, ℕ, List, [], ◌∷◌, Bool, true, false, Option, Some, None, refl, sym, ap, subst, inl, inr, arith}, lemmas.{Bool.{cases_Bool, Decides.nat_tests}, List.Elements.All-from_recursion, Slice.Eq.bytes_eq-Decides}}, specs.{Prelude.{if◌then◌else◌, map, nat_lt}, List.AllByRecursion, Str.bytes_eq}}
 use Rattle.desk_memory.specs.{DeviceState.is_new, Entry.{Entry, Home, Note, entry_at, home_of, last_in, owner_in}, Moving.{adoption_fault, at_home, with_departure, entries_of, gone_to, has_here, is_behind, is_desk, is_gone_to, is_of_other, moved_lines}}
-use Rattle.verifier_desk.specs.{DeskLine.{DeskLine, TooLong, Silent, Foreign, Own, desk_line_of, DeviceLine}, DeviceKey.{DeviceKey, key_named}, Judged.entry_through, Law.judged_at, Noted.{entries_after, note_at, noted_of, with_noted}, Replies.{DeskFields, lines_said, mark_at, own_lines, state_at}}
-use Rattle.verifier_desk.proofs.Remembered.{IsKnown, line_known, memory_has_states}
-use Rattle.many_desks.specs.{Act.{IsLearned, MayAdopt, Sends, World, world_after}, Keys.StandsUnder, Law.entry_of_one, Possible.{MayFollow, MayServeAll}}
-use Rattle.many_desks.proofs.{KeyPairs.{owner_stands, stood_or_added, unowned}, OneName.keys_are_sound, Placed.{MovedTo, departed_last, placed, view_of}, Token.{IsBehind, others_behind}, Worlds.{changed_memory, other_memory, same_bytes, same_or_other}}
+use Rattle.verifier_desk.{specs.{DeskLine.{DeskLine, TooLong, Silent, Foreign, Own, desk_line_of, DeviceLine}, DeviceKey.{DeviceKey, key_named}, Judged.entry_through, Law.judged_at, Noted.{entries_after, note_at, noted_of, with_noted}, Replies.{DeskFields, lines_said, mark_at, own_lines, state_at}}, proofs.Remembered.{IsKnown, line_known, memory_has_states}}
+use Rattle.many_desks.{specs.{Act.{IsLearned, MayAdopt, Sends, World, world_after}, Keys.StandsUnder, Law.entry_of_one, Possible.{MayFollow, MayServeAll}}, proofs.{KeyPairs.{owner_stands, stood_or_added, unowned}, OneName.keys_are_sound, Placed.{MovedTo, departed_last, placed, view_of}, Token.{IsBehind, others_behind}, Worlds.{changed_memory, other_memory, same_bytes, same_or_other}}}
 use Rattle.report_text.proofs.ReportWords.{other_bytes}
 
 -- a key that is noted is that of a device of the desk

@@ -1,19 +1,8 @@
 -- What a memory prints again of a device that is gone.
-use Rattle.std.proofs.Common.{◌≡◌, ◌∙◌, ◌⊎◌, ℕ, List, [], ◌∷◌, Bool, true, false, not, Option, Some, None, refl, sym, ap, subst, inl, inr, true≢false}
-use Rattle.std.proofs.lemmas.Option.{same_Some}
-use Rattle.std.specs.Prelude.{if◌then◌else◌, map, IfSome}
-use Rattle.std.specs.List.{AllByRecursion}
-use Rattle.std.specs.Option.{is_none, is_some}
-use Rattle.std.specs.Str.{bytes_eq}
-use Rattle.std.proofs.lemmas.Bool.{cases_Bool}
-use Rattle.std.proofs.lemmas.List.Elements.{All-from_recursion}
-use Rattle.std.proofs.lemmas.Slice.Eq.{bytes_eq-Decides}
-use Rattle.desk_memory.specs.{DeviceState.is_new, Entry.{Entry, Home, Note, entry_at, home_of, is_replaced, last_in, with_entries, with_entry}, Moving.{with_arrivals, entries_on_arrival, at_home, with_departure, entries_of, gone_to, is_here, is_needed, moved_lines, with_gone}}
-use Rattle.verifier_desk.specs.{DeskLine.{DeskLine, TooLong, Silent, Foreign, Own, desk_line_of, DeviceLine}, DeviceKey.key_named, Law.judged_lines, Noted.{entries_after, note_at, noted_of, with_noted}, Replies.{DeskFields, lines_said, state_at}, Run.Run}
-use Rattle.verifier_desk.proofs.Remembered.{IsKnown, line_known, memory_has_states}
-use Rattle.many_desks.specs.{Act.{Act, Adopts, IsAllowed, IsMove, MayServe, Sends, Serves, WasMoved, World, desk_of, entries_by, world_after}, Possible.IsPrintedAgain}
-use Rattle.desk_memory.proofs.Noted.{last_named}
-use Rattle.many_desks.proofs.{Adopted.{last_has, last_of_own, more_last, or_else, says_of_none}, KeyPairs.both, Placed.{departed_last, none_gone}, Through.home_through, Worlds.{changed_memory, other_memory, same_or_other}}
+use Rattle.std.{proofs.{Common.{◌≡◌, ◌∙◌, ◌⊎◌, ℕ, List, [], ◌∷◌, Bool, true, false, not, Option, Some, None, refl, sym, ap, subst, inl, inr, true≢false}, lemmas.{Option.same_Some, Bool.cases_Bool, List.Elements.All-from_recursion, Slice.Eq.bytes_eq-Decides}}, specs.{Prelude.{if◌then◌else◌, map, IfSome}, List.AllByRecursion, Option.{is_none, is_some}, Str.bytes_eq}}
+use Rattle.desk_memory.{specs.{DeviceState.is_new, Entry.{Entry, Home, Note, entry_at, home_of, is_replaced, last_in, with_entries, with_entry}, Moving.{with_arrivals, entries_on_arrival, at_home, with_departure, entries_of, gone_to, is_here, is_needed, moved_lines, with_gone}}, proofs.Noted.last_named}
+use Rattle.verifier_desk.{specs.{DeskLine.{DeskLine, TooLong, Silent, Foreign, Own, desk_line_of, DeviceLine}, DeviceKey.key_named, Law.judged_lines, Noted.{entries_after, note_at, noted_of, with_noted}, Replies.{DeskFields, lines_said, state_at}, Run.Run}, proofs.Remembered.{IsKnown, line_known, memory_has_states}}
+use Rattle.many_desks.{specs.{Act.{Act, Adopts, IsAllowed, IsMove, MayServe, Sends, Serves, WasMoved, World, desk_of, entries_by, world_after}, Possible.IsPrintedAgain}, proofs.{Adopted.{last_has, last_of_own, more_last, or_else, says_of_none}, KeyPairs.both, Placed.{departed_last, none_gone}, Through.home_through, Worlds.{changed_memory, other_memory, same_or_other}}}
 use Rattle.report_text.proofs.ReportWords.{other_bytes}
 
 -- the lines go by the device's own entries

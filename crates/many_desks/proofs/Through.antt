@@ -1,12 +1,8 @@
 -- A device's last entry through its lines: where it is at home stays, and does not matter.
-use Rattle.std.proofs.Common.{◌≡◌, ◌∙◌, ℕ, List, [], ◌∷◌, ◌++◌, Option, Some, None, refl, sym, ap, inl, inr, append_assoc}
-use Rattle.std.specs.Prelude.{if◌then◌else◌, option_map}
-use Rattle.std.specs.Str.{bytes_eq}
-use Rattle.std.proofs.lemmas.Bool.{cases_Bool}
+use Rattle.std.{proofs.{Common.{◌≡◌, ◌∙◌, ℕ, List, [], ◌∷◌, ◌++◌, Option, Some, None, refl, sym, ap, inl, inr, append_assoc}, lemmas.Bool.cases_Bool}, specs.{Prelude.{if◌then◌else◌, option_map}, Str.bytes_eq}}
 use Rattle.report_text.specs.ReportFile.{report2_of}
 use Rattle.desk_memory.specs.{declared.device_state.DeviceState.DeviceState, DeviceState.{is_new, new_device, under_new_key}, Entry.{Entry, Note, home_of, state_under}}
-use Rattle.verifier_desk.specs.{DeviceReply.{answer_after, state_after}, Judged.{JudgedLine, entry_after, entry_through, is_new_to, mark_of, state_before}, Law.{KeyCounter, accepted_counters, accepted_counter, counter_of, requested_counters, under_mark}}
-use Rattle.verifier_desk.proofs.Remembered.{entry_through-append}
+use Rattle.verifier_desk.{specs.{DeviceReply.{answer_after, state_after}, Judged.{JudgedLine, entry_after, entry_through, is_new_to, mark_of, state_before}, Law.{KeyCounter, accepted_counters, accepted_counter, counter_of, requested_counters, under_mark}}, proofs.Remembered.entry_through-append}
 use Rattle.many_desks.specs.Law.{SayAlike, note_of}
 
 home_after : (name : List ℕ) (entry : Option Entry) (now : JudgedLine)

@@ -1,15 +1,9 @@
 -- A device as a token that goes from desk to desk: what the memories of all desks have of it, step
 -- by step.
-use Rattle.std.proofs.Common.{◌≡◌, ◌∙◌, ◌⊎◌, ◌<◌, ◌≤◌, ◌+◌, ℕ, List, [], true, false, Option, Some, None, refl, sym, ap, subst, inl, inr, arith}
-use Rattle.std.proofs.lemmas.Option.{same_Some}
-use Rattle.std.specs.Option.{is_none}
-use Rattle.std.specs.Prelude.{if◌then◌else◌, nat_lt, IfSome, option_map}
-use Rattle.std.proofs.lemmas.Bool.{cases_Bool}
-use Rattle.std.proofs.lemmas.Bool.Decides.{nat_tests}
+use Rattle.std.{proofs.{Common.{◌≡◌, ◌∙◌, ◌⊎◌, ◌<◌, ◌≤◌, ◌+◌, ℕ, List, [], true, false, Option, Some, None, refl, sym, ap, subst, inl, inr, arith}, lemmas.{Option.same_Some, Bool.{cases_Bool, Decides.nat_tests}}}, specs.{Option.is_none, Prelude.{if◌then◌else◌, nat_lt, IfSome, option_map}}}
 use Rattle.desk_memory.specs.{Entry.{Entry, Home, home_of}, Moving.{entry_on_arrival, came_by, gone_to, has_here, has_not_come, is_behind, is_here}}
 use Rattle.verifier_desk.specs.Judged.{JudgedLine, entry_through}
-use Rattle.many_desks.specs.{Act.IsLearned, Law.{SayAlike, note_of}}
-use Rattle.many_desks.proofs.{Worlds.same_or_other, Through.{home_through, never_none, some_through, alike_through}}
+use Rattle.many_desks.{specs.{Act.IsLearned, Law.{SayAlike, note_of}}, proofs.{Worlds.same_or_other, Through.{home_through, never_none, some_through, alike_through}}}
 
 -- the last entry of the device at each desk
 abbrev pub View : Type 0

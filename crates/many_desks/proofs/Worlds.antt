@@ -1,8 +1,5 @@
 -- One memory changes, and all others stay.
-use Rattle.std.proofs.Common.{◌≡◌, ◌⊎◌, ℕ, List, true, refl, inl, inr}
-use Rattle.std.specs.Str.{bytes_eq}
-use Rattle.std.proofs.lemmas.Bool.{cases_Bool}
-use Rattle.std.proofs.lemmas.Slice.Eq.{bytes_eq-Decides}
+use Rattle.std.{proofs.{Common.{◌≡◌, ◌⊎◌, ℕ, List, true, refl, inl, inr}, lemmas.{Bool.cases_Bool, Slice.Eq.bytes_eq-Decides}}, specs.Str.bytes_eq}
 use Rattle.report_text.proofs.ReportWords.{other_bytes}
 use Rattle.desk_memory.specs.Entry.{Entry}
 use Rattle.many_desks.specs.Act.{World, with_memory}

@@ -1,7 +1,6 @@
 -- What becomes of the memories of many desks: desks serve lines, and devices move between them. A
 -- desk is told by its name.
-use Rattle.std.specs.Prelude.{◌≡◌, ◌⊎◌, ℕ, true, List, [], ◌∷◌, if◌then◌else◌, All, Option, None}
-use Rattle.std.specs.Str.{bytes_eq}
+use Rattle.std.specs.{Prelude.{◌≡◌, ◌⊎◌, ℕ, true, List, [], ◌∷◌, if◌then◌else◌, All, Option, None}, Str.bytes_eq}
 use Rattle.desk_memory.specs.{Entry.{Entry, last_in, owner_in}, Moving.{with_arrivals, adoption_fault, with_departure, entries_of, has_here, moved_lines}}
 use Rattle.verifier_desk.specs.{DeviceKey.first_gone, KeyOwner.KeysStandApart, Noted.entries_after, Run.Run}
 

@@ -1,6 +1,5 @@
 -- What many desks keep of each device.
-use Rattle.std.specs.Prelude.{◌≡◌, ◌≤◌, ◌++◌, ℕ, true, false, List, [], ◌∷◌, if◌then◌else◌, Option, Some, None, IfSome, option_map}
-use Rattle.std.specs.Str.{bytes_eq}
+use Rattle.std.specs.{Prelude.{◌≡◌, ◌≤◌, ◌++◌, ℕ, true, false, List, [], ◌∷◌, if◌then◌else◌, Option, Some, None, IfSome, option_map}, Str.bytes_eq}
 use Rattle.desk_memory.specs.{declared.answer.Answer.{Answer, TheVariants.Stale}, Entry.{Entry, Note, last_in}, Moving.{has_here, is_here}}
 use Rattle.verifier_desk.specs.{DeskLine.{Own, desk_line_of, DeviceLine}, DeviceKey.DeviceKey, Judged.{JudgedLine, answer_to, entry_through, mark_of}, Law.judged_lines, Replies.{answer_line, judge_at, mark_at, reply}, Run.Run}
 use Rattle.many_desks.specs.Act.{Act, AreAllowed, Serves, World, world_after}

@@ -1,8 +1,5 @@
 -- Lists of bytes against functions of the place.
-use Rattle.std.proofs.Common.{◌≡◌, ◌<◌, ◌≤◌, ◌+◌, ◌∷◌, ◌++◌, ◌∙◌, [], ℕ, zero, suc, Bool, List, length, get_or, set, take, drop, refl, ap, arith, add-one, below_more, get_or-set_same, get_or-set_other, inl, inr}
-use Rattle.std.proofs.lemmas.Bool.Decides.{eqb_tells}
-use Rattle.std.proofs.Math.ListN.{get_or-append}
-use Rattle.std.proofs.Math.Seq.{drop-cons, get_or-append_seam}
+use Rattle.std.proofs.{Common.{◌≡◌, ◌<◌, ◌≤◌, ◌+◌, ◌∷◌, ◌++◌, ◌∙◌, [], ℕ, zero, suc, Bool, List, length, get_or, set, take, drop, refl, ap, arith, add-one, below_more, get_or-set_same, get_or-set_other, inl, inr}, lemmas.Bool.Decides.eqb_tells, Math.{ListN.get_or-append, Seq.{drop-cons, get_or-append_seam}}}
 use Rattle.device_types.specs.Map.{EXEC_WORD, AUX_WORD}
 use Rattle.part_definitions.specs.Memory.{PowerOn, ShownFlags, MemoryWrite, byte_at, bytes_from}
 

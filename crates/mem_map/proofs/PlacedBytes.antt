@@ -1,7 +1,5 @@
 -- Bytes that are placed one after the other.
-use Rattle.std.proofs.Common.{◌≡◌, ◌<◌, ◌+◌, ℕ, suc, length, drop, get_or, drop-cons, add-one, ap, cond, eqb, List, [], ◌∷◌, Option, Some, None, refl, arith, inl, inr}
-use Rattle.std.specs.Option.{option_or}
-use Rattle.std.proofs.lemmas.Bool.Decides.{eqb_tells}
+use Rattle.std.{proofs.{Common.{◌≡◌, ◌<◌, ◌+◌, ℕ, suc, length, drop, get_or, drop-cons, add-one, ap, cond, eqb, List, [], ◌∷◌, Option, Some, None, refl, arith, inl, inr}, lemmas.Bool.Decides.eqb_tells}, specs.Option.option_or}
 use Rattle.mem_map.specs.Image.{byte_among}
 
 -- there is none below the first

@@ -1,8 +1,6 @@
 -- The bytes of a valid region are a span.
-use Rattle.std.proofs.Common.{◌≡◌, ◌+◌, ◌≤◌, ℕ, true, inl, inr, arith}
-use Rattle.std.proofs.lemmas.Bool.Decides.{nat_tests}
-use Rattle.device_types.specs.declared.region.Region.{Region}
-use Rattle.device_types.proofs.ValidRange.{IsValidRange}
+use Rattle.std.proofs.{Common.{◌≡◌, ◌+◌, ◌≤◌, ℕ, true, inl, inr, arith}, lemmas.Bool.Decides.nat_tests}
+use Rattle.device_types.{specs.declared.region.Region.Region, proofs.ValidRange.IsValidRange}
 use Rattle.mem_map.specs.Span.{is_span}
 
 span-ram :

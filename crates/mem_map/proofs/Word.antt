@@ -1,7 +1,5 @@
 -- The two bytes of a word, written together.
-use Rattle.std.proofs.Common.{◌≡◌, ◌<◌, ◌+◌, ◌*◌, ◌&&◌, ◌||◌, ◌∷◌, ◌∙◌, ℕ, Bool, true, false, not, List, length, get_or, set, nat_le, refl, ap, sym, arith, get_or-set_same, get_or-set_other, length-set, inl, inr, if◌then◌else◌}
-use Rattle.std.proofs.lemmas.Bool.{le-leb, lt-leb, eq-eqb}
-use Rattle.std.proofs.lemmas.Bool.Decides.{leb_tells, eqb_tells}
+use Rattle.std.proofs.{Common.{◌≡◌, ◌<◌, ◌+◌, ◌*◌, ◌&&◌, ◌||◌, ◌∷◌, ◌∙◌, ℕ, Bool, true, false, not, List, length, get_or, set, nat_le, refl, ap, sym, arith, get_or-set_same, get_or-set_other, length-set, inl, inr, if◌then◌else◌}, lemmas.Bool.{le-leb, lt-leb, eq-eqb, Decides.{leb_tells, eqb_tells}}}
 use Rattle.device_types.specs.Map.{lies_in, stack_region}
 use Rattle.part_definitions.specs.Memory.{PowerOn, ShownFlags, MemoryWrite, byte_at, first_byte, fixed_byte, last_written, takes_write, is_ram, is_program, is_flag_word}
 

@@ -1,12 +1,10 @@
 -- The bytes of each statement stand in the image.
-use Rattle.std.proofs.{Common.{◌≡◌, ◌∙◌, ◌<◌, ◌≤◌, ◌+◌, ◌++◌, ◌||◌, ℕ, ap, sym, subst, refl, List, [], ◌∷◌, length, reverse, true, Option, Some, None, Result, Ok, Err, IfOk, inl, inr, arith, if◌then◌else◌, suc, false, ◌&&◌, ◌==◌, ◌%◌, not, zero, Bool}, lemmas.{Bool.{and_parts, and_from, or_parts, not-true, not_from_false, Decides.{eqb_tells, nat_tests}}, List.{reverse-append, append_assoc}}}
-use Rattle.std.specs.{Prelude.IsOkAnd, List.{flat_map, list_all, list_any}, Option.option_or, Result.result_err}
+use Rattle.std.{proofs.{Common.{◌≡◌, ◌∙◌, ◌<◌, ◌≤◌, ◌+◌, ◌++◌, ◌||◌, ℕ, ap, sym, subst, refl, List, [], ◌∷◌, length, reverse, true, Option, Some, None, Result, Ok, Err, IfOk, inl, inr, arith, if◌then◌else◌, suc, false, ◌&&◌, ◌==◌, ◌%◌, not, zero, Bool}, lemmas.{Bool.{and_parts, and_from, or_parts, not-true, not_from_false, Decides.{eqb_tells, nat_tests}}, List.{reverse-append, append_assoc}}}, specs.{Prelude.IsOkAnd, List.{flat_map, list_all, list_any}, Option.option_or, Result.result_err}}
 use Rattle.part_definitions.specs.Memory.{is_image_place}
 use Rattle.msp_decode.specs.{declared.instr.Instr.Instr, Completion.words_of, Law.AreReadAs}
 use Rattle.text_scan.specs.{declared.{fault_kind.FaultKind.{FaultKind, TheVariants.{Twice, Place, Overlap}}, fault_at.FaultAt.FaultAt, text_fault.TextFault.TextFault}, Reader.{◌>>=◌, Reads, value_as, value_or_fault}}
 use Rattle.asm_text.specs.declared.{body.Body.{Body, TheVariants.{Empty, Instr as Instruction, Org, Word, Byte, Ascii, Equ}}, statement.Statement.Statement}
-use Rattle.msp_asm.specs.{Value.Scope, Statement.{size_of, bytes_of, word_bytes, named_instruction, IsNamed, is_of_words}, FirstPass.{first_fault, first_pass_fault, is_placed, scope_after, at_line, is_among, places_from, gives_again, constant_fault, place_fault, space_fault}, SecondPass.{byte_from, byte_placed, byte_of_image, fault_of, image_of, scope_among, second_pass_fault, source_image}, HasBytes.{HasBytes, HasBytesOf, HasInstruction, HasInstructionOf, OfEachStatement}}
-use Rattle.msp_asm.proofs.{StatementSize.bytes_have_their_size, LinesSoFar.{neither, no_fault_at}}
+use Rattle.msp_asm.{specs.{Value.Scope, Statement.{size_of, bytes_of, word_bytes, named_instruction, IsNamed, is_of_words}, FirstPass.{first_fault, first_pass_fault, is_placed, scope_after, at_line, is_among, places_from, gives_again, constant_fault, place_fault, space_fault}, SecondPass.{byte_from, byte_placed, byte_of_image, fault_of, image_of, scope_among, second_pass_fault, source_image}, HasBytes.{HasBytes, HasBytesOf, HasInstruction, HasInstructionOf, OfEachStatement}}, proofs.{StatementSize.bytes_have_their_size, LinesSoFar.{neither, no_fault_at}}}
 use Rattle.mem_map.specs.{declared.image.Image.Image, Image.{byte_in, byte_among}}
 
 -- The places of a statement without a fault are free.

@@ -1,8 +1,5 @@
 -- The words of an instruction that a statement names.
-use Rattle.std.proofs.Common.{◌≡◌, ap, refl, subst, ℕ, suc, ◌+◌, ◌*◌, ◌%◌, ◌==◌, ◌&&◌, ◌||◌, ◌++◌, not, Bool, true, false, length, Some, None, Result, Ok, Err, IfOk, if◌then◌else◌, arith}
-use Rattle.std.specs.Prelude.{ℤ}
-use Rattle.std.proofs.lemmas.Bool.Decides.{nat_tests}
-use Rattle.std.proofs.lemmas.List.{length-append}
+use Rattle.std.{proofs.{Common.{◌≡◌, ap, refl, subst, ℕ, suc, ◌+◌, ◌*◌, ◌%◌, ◌==◌, ◌&&◌, ◌||◌, ◌++◌, not, Bool, true, false, length, Some, None, Result, Ok, Err, IfOk, if◌then◌else◌, arith}, lemmas.{Bool.Decides.nat_tests, List.length-append}}, specs.Prelude.ℤ}
 use Rattle.word_arith.specs.declared.size.Size.{Size}
 use Rattle.msp_decode.specs.{declared.{source.Source.Source, dest.Dest.Dest, one.One.One as OneOp, cond.Cond.Cond, instr.Instr.Instr, encode_fault.EncodeFault.TheVariants.{NoByteForm, NotWritable, NoSuchForm, OffsetRange}}, Spelling.{has_size, has_form, has_range, takes_result, writes_operand}, Completion.{head_part, source_form, source_words as words_of_source, dest_words as words_of_dest, words_of}, EncodeFault.first_fault, Law.{AreReadAs, WordsAreRead}}
 use Rattle.msp_decode.specs.declared.instr.Instr.TheVariants as instr
@@ -10,8 +7,7 @@ use Rattle.part_definitions.specs.CpuRegister.{plus}
 use Rattle.text_scan.specs.{declared.fault_kind.FaultKind.FaultKind, Reader.◌>>=◌}
 use Rattle.text_scan.specs.declared.fault_kind.FaultKind.TheVariants as fault
 use Rattle.asm_text.specs.{declared.{body.Body.{Body, TheVariants.{Empty, Instr as Instruction, Org, Word, Byte, Ascii, Equ}}, form.{Form.{Form, TheVariants.{Two, One, Reti, Jump}}, SourceRole.{SourceRole, TheVariants.{First, Constant, StackTop}}, DestRole.{DestRole, TheVariants.{First as OnlyDest, Second, Register}}}}, Form.form_of}
-use Rattle.msp_asm.specs.{Value.{Scope, value, known_value, address_of}, Operand.{expr_in, operand_words, source_of}, Instruction.{Operands, written_source, written_dest, source_words, dest_words, source_at, dest_at, takes_source, one_of, half_way, jump_of, form_size, instruction_of}, Statement.{IsNamed, named_instruction}}
-use Rattle.msp_asm.proofs.OperandWords.{IsWritten, source_written, dest_written, read_next, read_then}
+use Rattle.msp_asm.{specs.{Value.{Scope, value, known_value, address_of}, Operand.{expr_in, operand_words, source_of}, Instruction.{Operands, written_source, written_dest, source_words, dest_words, source_at, dest_at, takes_source, one_of, half_way, jump_of, form_size, instruction_of}, Statement.{IsNamed, named_instruction}}, proofs.OperandWords.{IsWritten, source_written, dest_written, read_next, read_then}}
 
 -- an instruction that has words, of so many bytes
 pub record HasWords (it : Instr) (count : ℕ) : Type 0 where

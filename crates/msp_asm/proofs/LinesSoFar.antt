@@ -1,8 +1,5 @@
 -- The first fault of statements that are taken in order.
-use Rattle.std.proofs.Common.{◌≡◌, ◌∙◌, ◌<◌, ◌+◌, ℕ, ap, sym, refl, arith, List, [], ◌∷◌, ◌++◌, length, reverse, take, drop, get_or, slice_index, take-append-drop, Option, Some, None, Ok, Err, inl, inr}
-use Rattle.std.specs.Option.{option_or}
-use Rattle.std.proofs.lemmas.List.{reverse-append, take_more, get_or_append_left, get_or-append-add}
-use Rattle.std.proofs.lemmas.Bool.{cases_lt}
+use Rattle.std.{proofs.{Common.{◌≡◌, ◌∙◌, ◌<◌, ◌+◌, ℕ, ap, sym, refl, arith, List, [], ◌∷◌, ◌++◌, length, reverse, take, drop, get_or, slice_index, take-append-drop, Option, Some, None, Ok, Err, inl, inr}, lemmas.{List.{reverse-append, take_more, get_or_append_left, get_or-append-add}, Bool.cases_lt}}, specs.Option.option_or}
 use Rattle.text_scan.specs.{declared.{fault_at.FaultAt.FaultAt, fault_kind.FaultKind.FaultKind, word_fault.WordFault.{WordFault, TheVariants.{Kind, Memory}}}, Reader.fault_in_line}
 use Rattle.asm_text.specs.declared.statement.Statement.{Statement}
 use Rattle.msp_asm.specs.{FirstPass.{at_line, first_fault}, FirstPassState.AnswersFault, Assembly.IsFault}

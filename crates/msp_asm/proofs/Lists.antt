@@ -1,10 +1,8 @@
 -- Lists that are gathered item by item.
-use Rattle.std.proofs.Common.{◌≡◌, ◌∙◌, ap, sym, refl, ◌+◌, ◌<◌, ℕ, suc, List, ◌++◌, length, drop, get_or, drop-cons, add-one, Result, Ok, Err, flat_map}
-use Rattle.std.proofs.lemmas.List.{append_assoc}
+use Rattle.std.{proofs.{Common.{◌≡◌, ◌∙◌, ap, sym, refl, ◌+◌, ◌<◌, ℕ, suc, List, ◌++◌, length, drop, get_or, drop-cons, add-one, Result, Ok, Err, flat_map}, lemmas.List.append_assoc}, specs.Prelude.ℤ}
 use Rattle.text_scan.specs.{declared.{fault_kind.FaultKind.FaultKind, word_fault.WordFault.{WordFault, TheVariants.{Kind, Memory}}}, Reader.◌>>=◌}
 use Rattle.msp_asm.specs.{StatementBytes.AddsBytes, Statement.{value_bytes, all_bytes}}
 use Rattle.word_arith.specs.declared.size.Size.{Size}
-use Rattle.std.specs.Prelude.{ℤ}
 
 -- a list so far, and what is left
 abbrev pub with_prefix : {A : Type 0} → List A → Result (List A) FaultKind

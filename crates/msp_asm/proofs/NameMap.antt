@@ -1,12 +1,6 @@
 -- A map of names as a function.
-use Rattle.std.proofs.Common.{◌≡◌, ℕ, ℤ, List, Option}
+use Rattle.std.{proofs.{Common.{◌≡◌, ℕ, ℤ, List, Option}, lemmas.Map.Text.btree_map_updates_str}, specs.{BTreeMap.BTreeMap, Cmp.Lexicographic.slice_cmp, Map.update, Ordering.nat_cmp, Str.bytes_eq}}
 use Rattle.std.specs.BTreeMap as tree
-use Rattle.std.specs.BTreeMap.{BTreeMap}
-use Rattle.std.specs.Cmp.Lexicographic.{slice_cmp}
-use Rattle.std.specs.Map.{update}
-use Rattle.std.specs.Ordering.{nat_cmp}
-use Rattle.std.specs.Str.{bytes_eq}
-use Rattle.std.proofs.lemmas.Map.Text.{btree_map_updates_str}
 use denote.Ref.{Bor}
 
 abbrev pub value_of : BTreeMap (Bor (List ℕ)) ℤ → List ℕ → Option ℤ

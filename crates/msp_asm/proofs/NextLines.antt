@@ -1,8 +1,6 @@
 -- A listing that is written item by item.
-use Rattle.std.proofs.Common.{◌≡◌, ◌≤◌, ◌<◌, ◌+◌, ℕ, zero, suc, List, [], ◌++◌, add-one, append_assoc, append-nil, Option, Some, None, refl, sym, arith, inl, inr}
-use Rattle.std.proofs.lemmas.Bool.{cases_lt}
-use Rattle.outside_edge.specs.Sink.{Takes, TakesPrefix}
-use Rattle.outside_edge.proofs.SinkLemmas.{prefix_after, prefix_of_more}
+use Rattle.std.proofs.{Common.{◌≡◌, ◌≤◌, ◌<◌, ◌+◌, ℕ, zero, suc, List, [], ◌++◌, add-one, append_assoc, append-nil, Option, Some, None, refl, sym, arith, inl, inr}, lemmas.Bool.cases_lt}
+use Rattle.outside_edge.{specs.Sink.{Takes, TakesPrefix}, proofs.SinkLemmas.{prefix_after, prefix_of_more}}
 use Rattle.msp_asm.specs.{declared.item.Item.Item, Item.item_at, Listing.{place_after, item_begun, with_item, items_below, listing_lines, line_at, free_after, listing}}
 
 listing_lines-with : (earlier : List (ℕ × Item)) (place : ℕ) (answer : Option Item)

@@ -1,6 +1,5 @@
 -- The extension words of operands.
-use Rattle.std.proofs.Common.{◌≡◌, refl, ℕ, ℤ, Bool, true, false, length, Option, Some, None, Result, Ok, Err, IfOk, if◌then◌else◌}
-use Rattle.std.specs.Prelude.{IsTrue, is_some}
+use Rattle.std.{proofs.Common.{◌≡◌, refl, ℕ, ℤ, Bool, true, false, length, Option, Some, None, Result, Ok, Err, IfOk, if◌then◌else◌}, specs.Prelude.{IsTrue, is_some}}
 use Rattle.word_arith.specs.declared.size.Size.{Size}
 use Rattle.msp_decode.specs.{declared.{source.Source.Source, constant.Gen.Gen, reg.Reg.TheVariants.{R0, R2, R3}, source_form.SourceForm.TheVariants.{Indirect as IndirectForm, IndirectInc as IndirectIncForm}}, Spelling.has_form, Completion.{source_form, source_words, dest_words}}
 use Rattle.msp_decode.specs.declared.source.Source.TheVariants as source

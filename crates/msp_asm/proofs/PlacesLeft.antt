@@ -1,7 +1,5 @@
 -- Places that are taken one after the other.
-use Rattle.std.proofs.Common.{◌≡◌, ◌<◌, ◌+◌, ◌-◌, ℕ, zero, suc, sym, ap, ◌∙◌, Bool, true, false, ◌&&◌, ◌||◌, [], ◌∷◌, refl, arith, ◌==◌}
-use Rattle.std.proofs.Math.Bool.{or_assoc}
-use Rattle.std.specs.List.{list_all, list_any}
+use Rattle.std.{proofs.{Common.{◌≡◌, ◌<◌, ◌+◌, ◌-◌, ℕ, zero, suc, sym, ap, ◌∙◌, Bool, true, false, ◌&&◌, ◌||◌, [], ◌∷◌, refl, arith, ◌==◌}, Math.Bool.or_assoc}, specs.List.{list_all, list_any}}
 use Rattle.msp_asm.specs.FirstPass.{places_from, is_among}
 
 -- the first of the places that are left

@@ -1,11 +1,7 @@
 -- One byte more, where an image may hold it.
-use Rattle.std.proofs.Common.{◌≡◌, ◌<◌, ◌+◌, ℕ, length, drop, get_or, sym, ap, ◌∙◌, Bool, true, cond, eqb, ◌&&◌, IsTrue, List, Option, Some, refl, inl, inr}
-use Rattle.std.specs.Option.{option_or}
-use Rattle.std.proofs.Math.Bool.{and-false}
-use Rattle.std.proofs.lemmas.Bool.Decides.{eqb_tells}
+use Rattle.std.{proofs.{Common.{◌≡◌, ◌<◌, ◌+◌, ℕ, length, drop, get_or, sym, ap, ◌∙◌, Bool, true, cond, eqb, ◌&&◌, IsTrue, List, Option, Some, refl, inl, inr}, Math.Bool.and-false, lemmas.Bool.Decides.eqb_tells}, specs.Option.option_or}
 use Rattle.part_definitions.specs.Memory.{is_image_place}
-use Rattle.mem_map.specs.Image.{byte_among}
-use Rattle.mem_map.proofs.PlacedBytes.{byte_among-more}
+use Rattle.mem_map.{specs.Image.byte_among, proofs.PlacedBytes.byte_among-more}
 
 place_test : (first place : ℕ) → IsTrue (is_image_place place)
     → (is_image_place first && eqb place first) ≡ eqb place first

@@ -1,6 +1,5 @@
 -- One statement more in the second pass, and the end of it.
-use Rattle.std.proofs.Common.{◌≡◌, ◌∙◌, ◌<◌, ℕ, ℤ, ap, sym, refl, List, ◌∷◌, length, reverse, slice_index, take, Option, Some, None, Result, Ok, Err, IfOk, IsTrue, Bool, true, false, cond}
-use Rattle.std.specs.Option.{option_or}
+use Rattle.std.{proofs.Common.{◌≡◌, ◌∙◌, ◌<◌, ℕ, ℤ, ap, sym, refl, List, ◌∷◌, length, reverse, slice_index, take, Option, Some, None, Result, Ok, Err, IfOk, IsTrue, Bool, true, false, cond}, specs.Option.option_or}
 use Rattle.part_definitions.specs.Memory.{is_image_place}
 use Rattle.text_scan.specs.{declared.text_fault.TextFault.{TextFault, TheVariants.{At, Memory}}, Reader.{Reads, value_as, value_or_fault}}
 use Rattle.asm_text.specs.declared.statement.Statement.{Statement}

@@ -1,13 +1,11 @@
 -- How many bytes a statement places.
-use Rattle.std.proofs.Common.{◌≡◌, ◌∙◌, refl, subst, ℕ, suc, ℤ, ◌+◌, ◌*◌, List, [], ◌∷◌, ◌++◌, length, flat_map, Result, Ok, IfOk, arith}
-use Rattle.std.proofs.lemmas.List.{length-append}
+use Rattle.std.proofs.{Common.{◌≡◌, ◌∙◌, refl, subst, ℕ, suc, ℤ, ◌+◌, ◌*◌, List, [], ◌∷◌, ◌++◌, length, flat_map, Result, Ok, IfOk, arith}, lemmas.List.length-append}
 use Rattle.word_arith.specs.declared.size.Size.{Size}
 use Rattle.word_arith.specs.declared.size.Size.TheVariants as sizes
 use Rattle.msp_decode.specs.Completion.{words_of}
 use Rattle.text_scan.specs.{declared.fault_kind.FaultKind.FaultKind, Reader.◌>>=◌}
 use Rattle.asm_text.specs.{declared.body.Body.{Body, TheVariants.{Empty, Instr as Instruction, Org, Word, Byte, Ascii, Equ}}, Expr.SignedTerm, Form.form_of}
-use Rattle.msp_asm.specs.{Value.{Scope, value, known_value, each, word_of, byte_of}, Instruction.{Operands, form_size}, Statement.{size_of, bytes_of, named_instruction, word_bytes, value_bytes, all_bytes, values_of}}
-use Rattle.msp_asm.proofs.{OperandWords.{read_next, read_then}, InstructionWords.{HasWords, instruction_has_words}}
+use Rattle.msp_asm.{specs.{Value.{Scope, value, known_value, each, word_of, byte_of}, Instruction.{Operands, form_size}, Statement.{size_of, bytes_of, named_instruction, word_bytes, value_bytes, all_bytes, values_of}}, proofs.{OperandWords.{read_next, read_then}, InstructionWords.{HasWords, instruction_has_words}}}
 
 pub length-word_bytes : (words : List ℕ) → length (flat_map word_bytes words) ≡ 2 * length words
 length-word_bytes [] = refl

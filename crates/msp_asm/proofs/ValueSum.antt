@@ -1,6 +1,5 @@
 -- The value of an expression, term by term.
-use Rattle.std.proofs.Common.{◌≡◌, ◌∙◌, ap, sym, refl, ◌+◌, ◌<◌, ℕ, suc, ℤ, ◌+ℤ◌, List, Option, Some, None, Bool, length, drop, get_or, drop-cons, add-one}
-use Rattle.std.proofs.Math.IntN.{+ℤ_assoc}
+use Rattle.std.proofs.{Common.{◌≡◌, ◌∙◌, ap, sym, refl, ◌+◌, ◌<◌, ℕ, suc, ℤ, ◌+ℤ◌, List, Option, Some, None, Bool, length, drop, get_or, drop-cons, add-one}, Math.IntN.+ℤ_assoc}
 use Rattle.asm_text.specs.Expr.{SignedTerm}
 use Rattle.msp_asm.specs.Value.{Scope, term_value, with_sign, with_term, value}
 

@@ -1,10 +1,5 @@
 -- The first pass: places and names. Lists of statements have the newest first.
-use Rattle.std.specs.Prelude.{◌+◌, ◌%◌, ◌==◌, ◌&&◌, ◌||◌, ℕ, zero, suc, ℤ, pos, negsuc, Bool, true, false, not, nat_le, nat_lt, List, [], ◌∷◌, if◌then◌else◌, Option, Some, None, is_some}
-use Rattle.std.specs.List.{list_all, list_any}
-use Rattle.std.specs.Option.{option_or}
-use Rattle.std.specs.Result.{result_err}
-use Rattle.std.specs.Map.{update}
-use Rattle.std.specs.Str.{bytes_eq}
+use Rattle.std.specs.{Prelude.{◌+◌, ◌%◌, ◌==◌, ◌&&◌, ◌||◌, ℕ, zero, suc, ℤ, pos, negsuc, Bool, true, false, not, nat_le, nat_lt, List, [], ◌∷◌, if◌then◌else◌, Option, Some, None, is_some}, List.{list_all, list_any}, Option.option_or, Result.result_err, Map.update, Str.bytes_eq}
 use Rattle.device_types.specs.Map.{program_region}
 use Rattle.part_definitions.specs.Memory.{is_image_place}
 use Rattle.text_scan.specs.{declared.{fault_at.FaultAt.FaultAt, fault_kind.FaultKind.{FaultKind, TheVariants.{Twice, Place, Overlap}}}, Reader.◌>>=◌}

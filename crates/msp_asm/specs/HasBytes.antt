@@ -1,6 +1,5 @@
 -- What stands in the image of a source.
-use Rattle.std.specs.Prelude.{◌≡◌, ◌+◌, ℕ, List, [], ◌∷◌, ◌++◌, reverse, Option, Some, IsOkAnd, Ok}
-use Rattle.std.specs.List.{flat_map}
+use Rattle.std.specs.{Prelude.{◌≡◌, ◌+◌, ℕ, List, [], ◌∷◌, ◌++◌, reverse, Option, Some, IsOkAnd, Ok}, List.flat_map}
 use Rattle.msp_decode.specs.{declared.instr.Instr.Instr, Completion.words_of, Law.AreReadAs}
 use Rattle.asm_text.specs.{declared.{body.Body.{Body, TheVariants.{Empty, Instr as Instruction, Org, Word, Byte, Ascii, Equ}}, statement.Statement.Statement}, Source.source_of}
 use Rattle.msp_asm.specs.{Value.Scope, Statement.{bytes_of, named_instruction, word_bytes}, SecondPass.scope_among}

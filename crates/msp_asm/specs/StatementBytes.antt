@@ -1,6 +1,5 @@
 -- What is said of bytes on their way.
-use Rattle.std.specs.Prelude.{◌≡◌, ◌++◌, ℕ, ℤ, List, Result, Ok, Err}
-use Rattle.std.specs.Global.{Vec}
+use Rattle.std.specs.{Prelude.{◌≡◌, ◌++◌, ℕ, ℤ, List, Result, Ok, Err}, Global.Vec}
 use Rattle.text_scan.specs.{declared.{fault_kind.FaultKind.FaultKind, word_fault.WordFault.{WordFault, TheVariants.{Kind, Memory}}}}
 
 -- bytes were added, or the fault was answered

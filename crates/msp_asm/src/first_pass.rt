@@ -1,6 +1,4 @@
-ghost use Rattle.std.specs.Prelude.{◌≡◌, ◌≤◌, ◌≤ℤ◌, ◌+◌, ℕ, pos, Some, None, IfOk, OnOk, IfSome, IsNone, if◌then◌else◌};
-ghost use Rattle.std.specs.Option.{option_copied};
-ghost use Rattle.std.specs.Result.{result_err};
+ghost use Rattle.std.specs.{Prelude.{◌≡◌, ◌≤◌, ◌≤ℤ◌, ◌+◌, ℕ, pos, Some, None, IfOk, OnOk, IfSome, IsNone, if◌then◌else◌}, Option.option_copied, Result.result_err};
 ghost use Rattle.msp_asm.specs.{Value.value_in, FirstPass.{constant_name, are_same, with_name, is_org, place_of}, FirstPassState.AnswersFault};
 
 use crate::names::Names;
@@ -80,9 +78,7 @@ pub struct FirstPass<'a> {
 }
 
 impl<'a> FirstPass<'a> {
-    ghost use Rattle.std.specs.Prelude.{◌≡◌, ◌≤◌, ◌≤ℤ◌, ◌∷◌, ◌||◌, [], ℕ, pos, List, IfOk, OnOk, IfSome, IsNone};
-    ghost use Rattle.std.specs.Option.{option_copied};
-    ghost use Rattle.std.specs.Result.{result_err};
+    ghost use Rattle.std.specs.{Prelude.{◌≡◌, ◌≤◌, ◌≤ℤ◌, ◌∷◌, ◌||◌, [], ℕ, pos, List, IfOk, OnOk, IfSome, IsNone}, Option.option_copied, Result.result_err};
     ghost use Rattle.asm_text.specs.declared.statement.Statement.{Statement};
     ghost use Rattle.msp_asm.specs.{Value.{value_in, scope_in}, Statement.size_of, FirstPass.{has_value, gives_again, constant_name, constant_value, constant_fault, places_byte, place_fault, next_scope, statement_fault, first_pass_fault}, FirstPassState.{occupies, AnswersFault}, FirstPassStands.{scope_of, FirstPassStandsFor}};
 

@@ -1,5 +1,4 @@
-ghost use Rattle.std.specs.Prelude.{◌≡◌, ◌==◌, ◌&&◌, ℕ, Some, IsTrue, if◌then◌else◌};
-ghost use Rattle.std.specs.Option.{option_or};
+ghost use Rattle.std.specs.{Prelude.{◌≡◌, ◌==◌, ◌&&◌, ℕ, Some, IsTrue, if◌then◌else◌}, Option.option_or};
 ghost use Rattle.part_definitions.specs.Memory.{is_image_place};
 ghost use Rattle.mem_map.specs.Image.{byte_in, byte_among};
 

@@ -1,6 +1,4 @@
-ghost use Rattle.std.specs.Prelude.{◌≡◌, OnOk, Some, None};
-ghost use Rattle.std.specs.Map.{update};
-ghost use Rattle.std.specs.Str.{bytes_eq};
+ghost use Rattle.std.specs.{Prelude.{◌≡◌, OnOk, Some, None}, Map.update, Str.bytes_eq};
 
 use std::alloc::{AllocError, Global};
 use std::collections::BTreeMap;

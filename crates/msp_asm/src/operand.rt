@@ -1,5 +1,4 @@
-ghost use Rattle.std.specs.Prelude.{◌≡◌, ◌≤◌, [], pos, IfOk, IsTrue, option_map};
-ghost use Rattle.std.specs.Option.{option_map_or};
+ghost use Rattle.std.specs.{Prelude.{◌≡◌, ◌≤◌, [], pos, IfOk, IsTrue, option_map}, Option.option_map_or};
 ghost use Rattle.msp_decode.specs.{Completion.source_form, Spelling.has_form};
 ghost use Rattle.msp_asm.specs.{Value.with_sign, Operand.{expr_in, constant_of, all_ones, generated_constant, operand_words, immediate, source_of, dest_of}};
 

@@ -1,5 +1,4 @@
-ghost use Rattle.std.specs.Prelude.{◌≡◌, ◌≤◌, ◌+◌, ◌||◌, ◌==◌, ◌<◌, ℕ, true, false, IfOk, OnOk, IfErr};
-ghost use Rattle.std.specs.Result.{result_err};
+ghost use Rattle.std.specs.{Prelude.{◌≡◌, ◌≤◌, ◌+◌, ◌||◌, ◌==◌, ◌<◌, ℕ, true, false, IfOk, OnOk, IfErr}, Result.result_err};
 ghost use Rattle.part_definitions.specs.Memory.{is_image_place};
 ghost use Rattle.msp_asm.specs.{FirstPass.{places_from, is_among, space_fault}, FirstPassState.occupies};
 

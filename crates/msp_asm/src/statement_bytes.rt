@@ -1,5 +1,4 @@
-ghost use Rattle.std.specs.Prelude.{◌≡◌, ◌++◌, OnOk, None};
-ghost use Rattle.std.specs.List.{flat_map};
+ghost use Rattle.std.specs.{Prelude.{◌≡◌, ◌++◌, OnOk, None}, List.flat_map};
 ghost use Rattle.msp_decode.specs.{Completion.{head_part, words_of}, EncodeFault.first_fault};
 ghost use Rattle.text_scan.specs.Reader.{ReadsWord};
 ghost use Rattle.msp_asm.specs.{Statement.{size_of, is_of_words, word_bytes, value_bytes, all_bytes}, StatementBytes.AddsBytes};

@@ -1,9 +1,7 @@
 -- The head that is computed from a word is the one that the word spells.
-use Rattle.std.proofs.{Common.{◌≡◌, ℕ, ◌<◌, ◌≤◌, ◌/◌, ◌%◌, ◌^◌, ◌↔◌, ℤ, Bool, true, false, refl, ap, sym, ◌∙◌, subst, arith, Option, Some, None, if◌then◌else◌, inl, inr}, lemmas.Bool.Decides.{nat_tests, leb_tells}}
-use Rattle.std.specs.Prelude.{IsTrue, ◌&&◌, ◌||◌, not}
+use Rattle.std.{proofs.{Common.{◌≡◌, ℕ, ◌<◌, ◌≤◌, ◌/◌, ◌%◌, ◌^◌, ◌↔◌, ℤ, Bool, true, false, refl, ap, sym, ◌∙◌, subst, arith, Option, Some, None, if◌then◌else◌, inl, inr}, lemmas.Bool.Decides.{nat_tests, leb_tells}}, specs.Prelude.{IsTrue, ◌&&◌, ◌||◌, not}}
 use Rattle.word_arith.specs.declared.{size.Size.Size, op2.Op2.Op2}
-use Rattle.msp_decode.specs.{declared.{one.One.One, cond.Cond.Cond, source_form.SourceForm.SourceForm, dest_form.DestForm.DestForm, head.Head.{Head, TheVariants.{Two, One as OneOperand, Reti, Jump}}}, Table.{op2_number, one_number, cond_number, size_number, source_mode, source_register, dest_mode, dest_register, offset_number}, Spelling.{has_form, has_range, is_legal, word_of, Spells, has_size, takes_result, writes_operand}, Head.{one_head, two_head, jump_head, head_of}, Law.HeadsAreSpelled, Field.{one_of, size_of_bit, source_of}}
-use Rattle.msp_decode.proofs.TableLemmas.{op2_number-op2_of, op2_of-op2_number, op2_number-lt, op2_number-le, one_number-one_of, one_of-one_number, one_number-lt, cond_number-cond_of, cond_of-cond_number, cond_number-lt, size_number-size_of_bit, size_of_bit-size_number, size_number-lt, source_mode-lt, source_register-lt, source_of-fields, source_mode-source_of, source_register-source_of, has_form-source_of, dest_mode-lt, dest_register-lt, dest_of-fields, dest_mode-dest_of, dest_register-dest_of, offset_number-lt, offset_of-offset_number, offset_number-offset_of, has_range-offset_of}
+use Rattle.msp_decode.{specs.{declared.{one.One.One, cond.Cond.Cond, source_form.SourceForm.SourceForm, dest_form.DestForm.DestForm, head.Head.{Head, TheVariants.{Two, One as OneOperand, Reti, Jump}}}, Table.{op2_number, one_number, cond_number, size_number, source_mode, source_register, dest_mode, dest_register, offset_number}, Spelling.{has_form, has_range, is_legal, word_of, Spells, has_size, takes_result, writes_operand}, Head.{one_head, two_head, jump_head, head_of}, Law.HeadsAreSpelled, Field.{one_of, size_of_bit, source_of}}, proofs.TableLemmas.{op2_number-op2_of, op2_of-op2_number, op2_number-lt, op2_number-le, one_number-one_of, one_of-one_number, one_number-lt, cond_number-cond_of, cond_of-cond_number, cond_number-lt, size_number-size_of_bit, size_of_bit-size_number, size_number-lt, source_mode-lt, source_register-lt, source_of-fields, source_mode-source_of, source_register-source_of, has_form-source_of, dest_mode-lt, dest_register-lt, dest_of-fields, dest_mode-dest_of, dest_register-dest_of, offset_number-lt, offset_of-offset_number, offset_number-offset_of, has_range-offset_of}}
 
 -- The ranges of words: illegal, of one operand, RETI, illegal again, jumps, of two operands.
 

@@ -1,9 +1,6 @@
 -- The illegal words are those from which no head is computed.
-use Rattle.std.proofs.Common.{◌≡◌, ℕ, ◌<◌, ◌≤◌, ◌/◌, ◌%◌, ◌^◌, ◌&&◌, ◌||◌, ◌⊎◌, ◌↔◌, inl, inr, Bool, true, false, not, refl, ap, sym, subst, ◌∙◌, arith, Option, Some, None, is_some, if◌then◌else◌}
-use Rattle.std.specs.Prelude.{IsNone}
-use Rattle.std.proofs.lemmas.Bool.Decides.{nat_tests}
-use Rattle.msp_decode.specs.{declared.head.Head.{Head, TheVariants.{One, Reti}}, Field.{one_of, size_of_bit, source_of}, Spelling.{has_form, has_size, takes_result, writes_operand, is_legal, IsIllegalWord}, Head.{two_head, jump_head, head_of}, Law.IllegalWordsSpellNothing}
-use Rattle.msp_decode.proofs.{HeadLemmas.{if_legal, one_of_fields, head_of-reti, head_of-low, head_of-fields, head_of-gap, head_of-jump, head_of-two, by_range}, TableLemmas.has_form-source_of}
+use Rattle.std.{proofs.{Common.{◌≡◌, ℕ, ◌<◌, ◌≤◌, ◌/◌, ◌%◌, ◌^◌, ◌&&◌, ◌||◌, ◌⊎◌, ◌↔◌, inl, inr, Bool, true, false, not, refl, ap, sym, subst, ◌∙◌, arith, Option, Some, None, is_some, if◌then◌else◌}, lemmas.Bool.Decides.nat_tests}, specs.Prelude.IsNone}
+use Rattle.msp_decode.{specs.{declared.head.Head.{Head, TheVariants.{One, Reti}}, Field.{one_of, size_of_bit, source_of}, Spelling.{has_form, has_size, takes_result, writes_operand, is_legal, IsIllegalWord}, Head.{two_head, jump_head, head_of}, Law.IllegalWordsSpellNothing}, proofs.{HeadLemmas.{if_legal, one_of_fields, head_of-reti, head_of-low, head_of-fields, head_of-gap, head_of-jump, head_of-two, by_range}, TableLemmas.has_form-source_of}}
 
 -- SWPB, SXT and CALL of bytes, by their fields
 byte_only : (op bit : ℕ) → op < 6 → bit < 2 → has_size (one_of op) (size_of_bit bit) ≡ false

@@ -1,8 +1,5 @@
 -- Each table of fields and its reading undo each other.
-use Rattle.std.proofs.Common.{◌≡◌, ℕ, ◌<◌, ◌≤◌, ℤ, refl, arith}
-use Rattle.std.specs.Prelude.{IsTrue}
-use Rattle.std.proofs.lemmas.Int.{ints}
-use Rattle.std.proofs.lemmas.Bool.Decides.{nat_tests}
+use Rattle.std.{proofs.{Common.{◌≡◌, ℕ, ◌<◌, ◌≤◌, ℤ, refl, arith}, lemmas.{Int.ints, Bool.Decides.nat_tests}}, specs.Prelude.IsTrue}
 use Rattle.word_arith.specs.{declared.{size.Size.Size, op2.Op2.Op2}}
 use Rattle.msp_decode.specs.{declared.{reg.Reg.Reg, one.One.One, cond.Cond.Cond, source_form.SourceForm.{SourceForm, TheVariants.{Register, Indexed, Indirect, IndirectInc, Immediate, Constant}}, dest_form.DestForm.DestForm}, Table.{reg_number, op2_number, one_number, cond_number, size_number, source_mode, source_register, dest_mode, dest_register, offset_number}, Field.{reg_of, op2_of, one_of, cond_of, size_of_bit, source_of, dest_of, offset_of}, Spelling.{has_form, has_range}}
 

@@ -1,9 +1,6 @@
 -- An instruction is read back from its words, and the words are written back from the instruction.
-use Rattle.std.proofs.Common.{◌≡◌, ℕ, ◌<◌, ◌^◌, [], ◌∷◌, length, take, refl, ap, ◌∙◌, arith, None}
-use Rattle.std.specs.Prelude.{IsTrue, slice_index}
-use Rattle.std.proofs.lemmas.Bool.Decides.{nat_tests}
-use Rattle.msp_decode.specs.{declared.{instr.Instr.Instr, head.Head.Head}, Spelling.{is_legal, word_of}, Completion.{extension_count, completion, head_part, extension_words, words_of}, EncodeFault.first_fault, Law.{WordsAreRead, WordsAreWritten}}
-use Rattle.msp_decode.proofs.{TableLemmas.{op2_number-lt, one_number-lt, cond_number-lt, size_number-lt, source_mode-lt, source_register-lt, dest_mode-lt, dest_register-lt, offset_number-lt}, HeadLemmas.head_complete}
+use Rattle.std.{proofs.{Common.{◌≡◌, ℕ, ◌<◌, ◌^◌, [], ◌∷◌, length, take, refl, ap, ◌∙◌, arith, None}, lemmas.Bool.Decides.nat_tests}, specs.Prelude.{IsTrue, slice_index}}
+use Rattle.msp_decode.{specs.{declared.{instr.Instr.Instr, head.Head.Head}, Spelling.{is_legal, word_of}, Completion.{extension_count, completion, head_part, extension_words, words_of}, EncodeFault.first_fault, Law.{WordsAreRead, WordsAreWritten}}, proofs.{TableLemmas.{op2_number-lt, one_number-lt, cond_number-lt, size_number-lt, source_mode-lt, source_register-lt, dest_mode-lt, dest_register-lt, offset_number-lt}, HeadLemmas.head_complete}}
 
 -- the word of a legal head is a word
 word_of-lt : (head : Head) → IsTrue (is_legal head) → word_of head < 2 ^ 16

@@ -12,8 +12,7 @@ pub struct Words {
 }
 
 impl Model for Words {
-    ghost use Rattle.std.specs.Prelude.{◌≡◌, ◌∷◌, ℕ, List, slice_index, drop};
-    ghost use Rattle.std.proofs.Common.{ap};
+    ghost use Rattle.std.{specs.Prelude.{◌≡◌, ◌∷◌, ℕ, List, slice_index, drop}, proofs.Common.ap};
     ghost use Rattle.msp_decode.specs.FollowingWords.{following_words, following_words_in, following_words_in-following_words};
 
     ghost Value = { List ℕ };

@@ -1,10 +1,5 @@
 -- The access of a call after so many words, by cases of that number.
-use Rattle.std.proofs.Common.{◌≡◌, ℕ, zero, suc, ◌+◌, ◌-◌, ◌≤◌, Bool, true, false, List, [], ◌∷◌, ◌++◌, get_or, inl, inr, append_assoc, refl, ap, sym, ◌∙◌, arith}
-use Rattle.std.specs.Prelude.{◌==◌, nat_lt, if◌then◌else◌}
-use Rattle.std.proofs.lemmas.Bool.{cases_lt, cond-true, cond-false, lt-ltb, le-ltb}
-use Rattle.std.proofs.lemmas.Bool.Decides.{nat_tests}
-use Rattle.std.proofs.lemmas.List.{get_or_append_left, get_or-append_right}
-use Rattle.std.proofs.lemmas.List.FromFn.{get_or-map-range_with_len, length-map-range_with_len}
+use Rattle.std.{proofs.{Common.{◌≡◌, ℕ, zero, suc, ◌+◌, ◌-◌, ◌≤◌, Bool, true, false, List, [], ◌∷◌, ◌++◌, get_or, inl, inr, append_assoc, refl, ap, sym, ◌∙◌, arith}, lemmas.{Bool.{cases_lt, cond-true, cond-false, lt-ltb, le-ltb, Decides.nat_tests}, List.{get_or_append_left, get_or-append_right, FromFn.{get_or-map-range_with_len, length-map-range_with_len}}}}, specs.Prelude.{◌==◌, nat_lt, if◌then◌else◌}}
 use Rattle.device_types.specs.Map.{ROM_ENTRY}
 use Rattle.part_definitions.specs.{Attestation.{CallItem, KeyRead, MetadataRead, KeptRead, KeptWrite, DecisionWrite, DerivedKeyWrite, RegionRead, InnerDigestWrite, MacWrite, ReturnRead, series, attestation_items, call_item, call_items, item_pc}, Request.ATTESTS}
 

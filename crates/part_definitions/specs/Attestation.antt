@@ -1,7 +1,6 @@
 -- A call of the attestation ROM: its accesses, by the words that passed in it so far, those that it
 -- read and those that it wrote to the MAC. (VRASED.)
-use Rattle.std.specs.Prelude.{◌==◌, ◌++◌, ◌+◌, ◌-◌, ◌*◌, ◌/◌, ◌%◌, ℕ, Bool, true, false, List, [], ◌∷◌, length, take, drop, slice_index, map, get_or, nat_lt, if◌then◌else◌, Option, Some}
-use Rattle.std.specs.List.{range_with_len}
+use Rattle.std.specs.{Prelude.{◌==◌, ◌++◌, ◌+◌, ◌-◌, ◌*◌, ◌/◌, ◌%◌, ℕ, Bool, true, false, List, [], ◌∷◌, length, take, drop, slice_index, map, get_or, nat_lt, if◌then◌else◌, Option, Some}, List.range_with_len}
 use Rattle.word_arith.specs.{declared.size.Size.TheVariants.Word, Number.Word16}
 use Rattle.device_types.specs.{declared.{access.Access.{Access, TheVariants.Write}, bounds.Bounds.Bounds}, Map.{lies_in, key_region, metadata_region, mac_region, DERIVED_KEY, INNER_DIGEST, KEPT_COUNTER, ROM_ENTRY, ROM_BODY, ROM_EXIT}, Bounds.are_valid, Address.{Bytes, Address}}
 use Rattle.part_definitions.specs.{BusAccess.{read_at, write_at}, Hmac.{Digest, hmac, inner_digest}, Metadata.challenge_in, Request.{request_decision, ATTESTS}}

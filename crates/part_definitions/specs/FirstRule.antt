@@ -1,6 +1,5 @@
 -- The rule that a step breaks: the first in the order in which records name them.
-use Rattle.std.specs.Prelude.{◌&&◌, Bool, Option, Some, None, if◌then◌else◌}
-use Rattle.std.specs.Option.{option_or}
+use Rattle.std.specs.{Prelude.{◌&&◌, Bool, Option, Some, None, if◌then◌else◌}, Option.option_or}
 use Rattle.device_types.specs.{declared.{rule.Rule.{Rule, TheVariants.{X0, I1}}, signals.Signals.Signals}, Address.Address}
 use Rattle.part_definitions.specs.{NextAccess.is_illegal, MonitorRule.{key_rule, atomicity_rule}}
 

@@ -1,6 +1,5 @@
 -- A request for an attestation: its token, and what the ROM decides on it.
-use Rattle.std.specs.Prelude.{◌++◌, ℕ, ◌∷◌, not, nat_le, if◌then◌else◌}
-use Rattle.std.specs.Str.{bytes_eq}
+use Rattle.std.specs.{Prelude.{◌++◌, ℕ, ◌∷◌, not, nat_le, if◌then◌else◌}, Str.bytes_eq}
 use Rattle.device_types.specs.Address.{Bytes}
 use Rattle.part_definitions.specs.{Hmac.{Digest, hmac}, Metadata.{challenge_in, counter_in, token_in, little_endian}}
 

@@ -1,7 +1,6 @@
 -- The second flag, AUX: as EXEC, but interrupts are allowed whose handlers lie in the executable
 -- region. (In the manner of ASAP.)
-use Rattle.std.specs.Prelude.{◌&&◌, ◌||◌, Bool, not, Option}
-use Rattle.std.specs.List.{list_any}
+use Rattle.std.specs.{Prelude.{◌&&◌, ◌||◌, Bool, not, Option}, List.list_any}
 use Rattle.device_types.specs.{declared.{region.Region.Region, bus_record.BusRecord.BusRecord}, Access.some_reads, Bounds.executable_region, Kind.is_irq, Map.{lies_in, vector_region}, ExecFlag.{SeenHistory, SeenRecord, accesses_in, writes_to, runs_inside, enters_region, fetches_first, clears_both, is_set}, Address.{Address, even}}
 
 -- an interrupt entry reads its vector

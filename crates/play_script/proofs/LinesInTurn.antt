@@ -1,6 +1,5 @@
 -- The lines of a script from the front: each line's events, and then those of the lines behind it.
-use Rattle.std.proofs.Common.{◌≡◌, ◌∙◌, ap, ℕ, List, [], ◌∷◌, ◌++◌, Bool, true, false, cond, Result, Ok, Err, refl, sym, append_assoc, append-nil}
-use Rattle.std.specs.Prelude.{nat_lt, if◌then◌else◌}
+use Rattle.std.{proofs.Common.{◌≡◌, ◌∙◌, ap, ℕ, List, [], ◌∷◌, ◌++◌, Bool, true, false, cond, Result, Ok, Err, refl, sym, append_assoc, append-nil}, specs.Prelude.{nat_lt, if◌then◌else◌}}
 use Rattle.text_scan.specs.{declared.{fault_at.FaultAt.FaultAt, fault_kind.FaultKind.{FaultKind, TheVariants.Order}}, LineFold.{text_lines, lines_fold, text_fold, utf8_of}, Reader.{◌>>=◌, in_line}, Word.{is_passed_over, words_of}}
 use Rattle.play_script.specs.{Grammar.{ScriptSoFar, no_lines, script_line_of, timed_events, with_entry, with_line, script_of}, IsScript.{Entry, entry_in}, Script.TimedEvent}
 

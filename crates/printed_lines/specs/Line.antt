@@ -1,7 +1,6 @@
 -- The printed lines. A line is a keyword and pieces, and ends with LF. A piece is a word: a name, a
 -- number in decimal, a word as four digits, a byte as two, bytes as two digits each, or a flag.
-use Rattle.std.specs.Prelude.{◌/◌, ◌%◌, ◌++◌, ℕ, Bool, true, false, List, [], ◌∷◌, Option, Some, None, codes}
-use Rattle.std.specs.Fmt.{decimal}
+use Rattle.std.specs.{Prelude.{◌/◌, ◌%◌, ◌++◌, ℕ, Bool, true, false, List, [], ◌∷◌, Option, Some, None, codes}, Fmt.decimal}
 use Rattle.hex.specs.Hex.{encode_lower}
 use Rattle.device_types.specs.{declared.{rule.Rule.Rule, version.Version.{Version, TheVariants.{One, Two}}}, Report.ReportFields, Address.{Bytes, Address}, Rule.rule_name}
 

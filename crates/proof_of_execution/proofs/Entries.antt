@@ -1,13 +1,10 @@
 -- How the executable region is entered: by an opcode fetch, or asleep, and then sleep lasts.
-use Rattle.std.proofs.Common.{◌≡◌, ℕ, ◌*◌, ◌/◌, ◌<◌, true, false, List, [], ◌⊎◌, inl, inr, Option, Some, None, refl, ap, sym, ◌∙◌, arith, subst}
-use Rattle.std.specs.Prelude.{◌==◌, ◌&&◌, is_some}
-use Rattle.std.proofs.lemmas.Bool.{cond_both, cond-true, cond-false, eqb-true, false_from_ne_true}
+use Rattle.std.{proofs.{Common.{◌≡◌, ℕ, ◌*◌, ◌/◌, ◌<◌, true, false, List, [], ◌⊎◌, inl, inr, Option, Some, None, refl, ap, sym, ◌∙◌, arith, subst}, lemmas.Bool.{cond_both, cond-true, cond-false, eqb-true, false_from_ne_true}}, specs.Prelude.{◌==◌, ◌&&◌, is_some}}
 use Rattle.device_types.specs.{declared.{access.Access.Access, bounds.Bounds.Bounds, kind.Kind.{Kind, TheVariants.{Cpu, Idle, Irq, Rom}}}, Bounds.{are_valid, executable_region}, Kind.is_cpu, Map.{lies_in, ROM_ENTRY}, ExecFlag.{fetches_at, ran_inside}}
-use Rattle.part_definitions.specs.{Attestation.{call_item, item_pc}, CpuRegister.{pc_of, is_asleep}, CpuState.{Boundary, Executing, Entering}, MonitorRule.in_rom, NextAccess.next_access}
+use Rattle.part_definitions.{specs.{Attestation.{call_item, item_pc}, CpuRegister.{pc_of, is_asleep}, CpuState.{Boundary, Executing, Entering}, MonitorRule.in_rom, NextAccess.next_access}, proofs.CallItems.first_pc}
 use Rattle.device_trace.specs.{Progress.{Progress, Held, Runs, InCall, next_pc_of, boundary_kind, kind_of, progress_from_boundary, progress_within, tells_irq, access_of, next_progress}, Start.Start}
 use Rattle.trace_facts.proofs.{Fresh.IsFresh, NeverBroken.item_pc-in_rom}
 use Rattle.proof_of_execution.proofs.Regions.{inside-open, min-inside, min-even}
-use Rattle.part_definitions.proofs.CallItems.{first_pc}
 
 -- at a boundary the next step has the PC of the registers, whatever it is
 pub boundary-pc : (regs : List ℕ) (vector : Option ℕ)

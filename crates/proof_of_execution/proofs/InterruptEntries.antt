@@ -1,7 +1,5 @@
 -- Where an interrupt entry leads: its steps have one PC, and then the handler's is next.
-use Rattle.std.proofs.Common.{◌≡◌, ◌<◌, ◌≤◌, ◌*◌, ◌/◌, ℕ, true, List, [], ◌∷◌, length, Option, Some, None, refl, ap, ◌∙◌, arith}
-use Rattle.std.specs.Prelude.{◌==◌}
-use Rattle.std.proofs.lemmas.Bool.{cond_both}
+use Rattle.std.{proofs.{Common.{◌≡◌, ◌<◌, ◌≤◌, ◌*◌, ◌/◌, ℕ, true, List, [], ◌∷◌, length, Option, Some, None, refl, ap, ◌∙◌, arith}, lemmas.Bool.cond_both}, specs.Prelude.◌==◌}
 use Rattle.device_types.specs.{declared.{access.Access.Access, bounds.Bounds.Bounds, kind.Kind.{Kind, TheVariants.{Boot, Cpu, Idle, Irq, Rom}}}, Access.some_reads, Bounds.{are_valid, executable_region}, Kind.is_irq, Map.{lies_in, ROM_ENTRY}}
 use Rattle.part_definitions.specs.{Attestation.{call_item, is_return, word_passed}, CpuRegister.{pc_of, is_asleep}, CpuState.{CpuState, Boundary, Executing, Entering, cpu_access, cpu_after, completion_or}, MonitorRule.in_rom, NextAccess.{Next, Asks, Completes, handler_registers, entry_access}}
 use Rattle.device_trace.specs.{Trace.{Play, logs_after}, Logs.vector_of, Progress.{access_of, kind_of, Progress, Held, Runs, InCall, next_pc_of, boundary_kind, progress_from_boundary, progress_within, after_return, call_after, next_progress}, Signals.step_kind, Start.Start}

@@ -1,10 +1,5 @@
 -- What a record does that does not clear the flag.
-use Rattle.std.proofs.Common.{◌≡◌, ℕ, Bool, true, false, not, Option, ap, ◌∙◌, arith}
-use Rattle.std.specs.Prelude.{◌==◌, ◌&&◌, is_some, is_none, option_to_list}
-use Rattle.std.specs.List.{list_any}
-use Rattle.std.proofs.lemmas.Bool.{or_parts, or_from, and_from, and_right, not_from_false}
-use Rattle.std.proofs.Math.Bool.{and_comm}
-use Rattle.std.proofs.lemmas.List.Folds.{list_any-append}
+use Rattle.std.{proofs.{Common.{◌≡◌, ℕ, Bool, true, false, not, Option, ap, ◌∙◌, arith}, lemmas.{Bool.{or_parts, or_from, and_from, and_right, not_from_false}, List.Folds.list_any-append}, Math.Bool.and_comm}, specs.{Prelude.{◌==◌, ◌&&◌, is_some, is_none, option_to_list}, List.list_any}}
 use Rattle.device_types.specs.{declared.{access.Access.Access, region.Region.Region}, Access.some_writes, Bounds.{executable_region, output_region}, Map.{some_touches, metadata_region}, ExecFlag.{SeenRecord, accesses_in, writes_to, fetches_outside, runs_inside, ran_inside, ran_at, clears_e1, clears_e2, clears_e3, clears_e4, clears_e5, clears_e6, clears_e7, clears_e8, clears_e9, clears_both, clears}}
 use Rattle.trace_facts.proofs.{ExecFlag.{other_false, first_false, none_there}, BoundsStay.writes_nowhere}
 use Rattle.device_trace.specs.RegionRun.{NoInterrupts, is_inside, runs_alone, runs_with, keeps_code, keeps_output}

@@ -1,12 +1,10 @@
 -- Where the flag of a run is set after a play, the executable region runs, has run, or sleeps.
-use Rattle.std.proofs.{Common.{◌≡◌, ℕ, Bool, true, false, List, [], ◌∷◌, inl, inr, Option, Some, None, refl, ap, sym, ◌∙◌, subst, not, ◌⊎◌, length, map, arith, ◌<◌, ◌*◌, ◌/◌}, lemmas.Bool.{and_parts, or_parts, eqb-true, false_from_ne_true, and_from, not-true, not_from_false, cond_both}}
-use Rattle.std.specs.{Prelude.{◌==◌, ◌&&◌, is_some, IsTrue, if◌then◌else◌, is_none}, List.list_any}
+use Rattle.std.{proofs.{Common.{◌≡◌, ℕ, Bool, true, false, List, [], ◌∷◌, inl, inr, Option, Some, None, refl, ap, sym, ◌∙◌, subst, not, ◌⊎◌, length, map, arith, ◌<◌, ◌*◌, ◌/◌}, lemmas.Bool.{and_parts, or_parts, eqb-true, false_from_ne_true, and_from, not-true, not_from_false, cond_both}}, specs.{Prelude.{◌==◌, ◌&&◌, is_some, IsTrue, if◌then◌else◌, is_none}, List.list_any}}
 use Rattle.device_types.specs.{declared.{bounds.Bounds.Bounds, bus_record.BusRecord.BusRecord, event.Event.Event, access.Access.Access, rule.Rule.Rule}, Bounds.{are_valid, executable_region}, Kind.{is_rom, is_irq}, Map.{lies_in, metadata_region, ROM_EXIT}, Report.ReportFields, ExecFlag.{SeenRecord, accesses_in, writes_to, ran_inside, last_pc, fetches_first, is_opcode_fetch, starts_run, runs_inside, exec, clears_both}, Access.some_reads}
 use Rattle.part_definitions.specs.{MonitorRule.in_rom, FirstRule.first_rule, TrustedFlag.{aux, clears_aux, enters_elsewhere, reads_vector, handler_read, clears_f3, clears_f4, clears_f10}}
 use Rattle.device_trace.specs.{Trace.{Play, logs_after, trace}, Logs.{Logs, exec_of, logged_bounds, step_progress, finishes_call, call_decision, progress_after, with_events, with_record, vector_of}, Progress.{Progress, last_registers}, Start.Start, Step.{record_of, asks_reset, next_record, dma_value_read, record_from}, Text.{report_of, denial_where, last_report, last_decision, last_denial}, RegionRun.{WholeRun, Interrupts, NoInterrupts, RegionRun, TrustedInterrupts, runs_alone, runs_with, keeps_code, keeps_code_with}, Blank.{blank_seen, touches_secrets, blank_access, blank_value}, Signals.{value_read, step_kind, proposed_access, signals_at, signals_of}}
 use Rattle.trace_facts.proofs.{ExecFlag.{none_there, other_false, exec-more, exec-none, aux-more, aux-none}, BoundsStay.logged_bounds-stay, Fresh.{LogsAreFresh, logs_after-fresh}, LastReport.last_report-made, BlankRecords.{last_pc-blank, starts_run-blank}}
-use Rattle.proof_of_execution.specs.WholeCall.{ExecAfterCallMeansWholeRun}
-use Rattle.proof_of_execution.proofs.{Regions.inside-open, Runs.{RunState, run_begins, state_after, run_outside, Goes}, InterruptEntries.{IsEarly, logs_after-early, irq-follows}, Entries.{region_entered, sleep_lasts}, Keeps.{KeepsBoth, Keeps, clears-kept, undisturbed-kept, code-kept, enters_at_start, clears_both-kept, alone-kept, entered_only}}
+use Rattle.proof_of_execution.{specs.WholeCall.ExecAfterCallMeansWholeRun, proofs.{Regions.inside-open, Runs.{RunState, run_begins, state_after, run_outside, Goes}, InterruptEntries.{IsEarly, logs_after-early, irq-follows}, Entries.{region_entered, sleep_lasts}, Keeps.{KeepsBoth, Keeps, clears-kept, undisturbed-kept, code-kept, enters_at_start, clears_both-kept, alone-kept, entered_only}}}
 
 -- What a record does that does not clear the second flag, which sees it blanked.
 

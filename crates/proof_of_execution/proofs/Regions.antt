@@ -1,10 +1,6 @@
 -- Where a valid executable region lies.
-use Rattle.std.proofs.Common.{◌≡◌, ℕ, ◌+◌, ◌*◌, ◌/◌, ◌%◌, ◌^◌, ◌<◌, ◌≤◌, true, false, ◌⊎◌, inl, inr, arith}
-use Rattle.std.specs.Prelude.{◌==◌, nat_le}
-use Rattle.std.proofs.lemmas.Bool.{and_parts, and_from, leb-true, le-leb, eq-eqb}
-use Rattle.std.proofs.lemmas.Bool.Decides.{nat_tests}
-use Rattle.device_types.specs.{declared.bounds.Bounds.Bounds, Bounds.{are_valid, executable_region}, Map.{lies_in, metadata_region}}
-use Rattle.device_types.proofs.ValidRange.{are_valid-ranges}
+use Rattle.std.{proofs.{Common.{◌≡◌, ℕ, ◌+◌, ◌*◌, ◌/◌, ◌%◌, ◌^◌, ◌<◌, ◌≤◌, true, false, ◌⊎◌, inl, inr, arith}, lemmas.Bool.{and_parts, and_from, leb-true, le-leb, eq-eqb, Decides.nat_tests}}, specs.Prelude.{◌==◌, nat_le}}
+use Rattle.device_types.{specs.{declared.bounds.Bounds.Bounds, Bounds.{are_valid, executable_region}, Map.{lies_in, metadata_region}}, proofs.ValidRange.are_valid-ranges}
 use Rattle.part_definitions.specs.MonitorRule.{in_rom}
 
 -- an address of RAM or of the program is neither 0 nor in the ROM

@@ -1,9 +1,6 @@
 -- A run of the executable region over a history, one record more at a time, whichever interrupts it
 -- may have.
-use Rattle.std.proofs.Common.{◌≡◌, ℕ, true, false, not, List, [], ◌∷◌, ◌++◌, ◌⊎◌, inl, inr, Option, Some, refl, ap, sym, ◌∙◌}
-use Rattle.std.specs.Prelude.{◌==◌}
-use Rattle.std.specs.List.{list_all}
-use Rattle.std.proofs.lemmas.Bool.{cases_Bool, and_from, and_parts, not_from_false, eqb-true}
+use Rattle.std.{proofs.{Common.{◌≡◌, ℕ, true, false, not, List, [], ◌∷◌, ◌++◌, ◌⊎◌, inl, inr, Option, Some, refl, ap, sym, ◌∙◌}, lemmas.Bool.{cases_Bool, and_from, and_parts, not_from_false, eqb-true}}, specs.{Prelude.◌==◌, List.list_all}}
 use Rattle.device_types.specs.{declared.{bus_record.BusRecord.BusRecord, bounds.Bounds.Bounds}, Bounds.{are_valid, executable_region}, Kind.is_irq, Map.lies_in, ExecFlag.{SeenRecord, is_opcode_fetch, fetches_first, ran_inside, ran_at, runs_inside}}
 use Rattle.device_trace.specs.{Progress.Progress, RegionRun.{Interrupts, NoInterrupts, TrustedInterrupts, is_inside, runs_with, keeps_code_with, keeps_output, begins_run, ends_run, has_left, RegionRun}}
 use Rattle.proof_of_execution.proofs.{Entries.Sleeps, InterruptEntries.StaysInside, Keeps.{KeepsBoth, output-kept, leaves_at_end}, Regions.min-inside}

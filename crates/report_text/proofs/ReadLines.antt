@@ -1,19 +1,12 @@
 -- Texts of printed lines, and the reports that are read of them.
-use Rattle.std.proofs.Common.{◌≡◌, ◌∙◌, ℕ, ◌+◌, ◌<◌, Bool, false, List, [], ◌∷◌, ◌++◌, ◌⊎◌, inl, inr, Option, Some, None, Ok, length, length-append, append_assoc, append-nil, add-zero, refl, ap, sym, arith, rules}
-use Rattle.std.specs.Prelude.{◌^◌, codes, IsUtf8}
-use Rattle.std.specs.Fmt.{decimal, digits}
-use Rattle.std.specs.Str.Lines.{lines}
-use Rattle.std.proofs.lemmas.Str.{IsUtf8-nil, IsUtf8-append}
+use Rattle.std.{proofs.{Common.{◌≡◌, ◌∙◌, ℕ, ◌+◌, ◌<◌, Bool, false, List, [], ◌∷◌, ◌++◌, ◌⊎◌, inl, inr, Option, Some, None, Ok, length, length-append, append_assoc, append-nil, add-zero, refl, ap, sym, arith, rules}, lemmas.Str.{IsUtf8-nil, IsUtf8-append}}, specs.{Prelude.{◌^◌, codes, IsUtf8}, Fmt.{decimal, digits}, Str.Lines.lines}}
 use Rattle.device_types.specs.{Report.ReportFields, declared.rule.Rule.Rule, Rule.{rule_name, rule_names}}
 use Rattle.printed_lines.specs.Line.{byte_digits, word_digits, flag_digit, with_pieces, line_of, sent_line, reset_line, report_keyword, report_line, denied_line, end_line}
-use Rattle.line_buffer.specs.LineLaw.{ArePieces}
-use Rattle.line_buffer.proofs.PieceLines.{first_line, utf8_line, plain-flag, plain-byte, plain-word}
-use Rattle.text_scan.specs.{LineFold.{lines_fold, text_fold, numbered_lines}, Word.{words_of, says_nothing, is_passed_over}, WordValue.{number_of, place_of, hex_block_of}}
+use Rattle.line_buffer.{specs.LineLaw.ArePieces, proofs.PieceLines.{first_line, utf8_line, plain-flag, plain-byte, plain-word}}
+use Rattle.text_scan.{specs.{LineFold.{lines_fold, text_fold, numbered_lines}, Word.{words_of, says_nothing, is_passed_over}, WordValue.{number_of, place_of, hex_block_of}}, proofs.{PlainWords.{hex_bytes_of-digits, hex_word_of-digits, one_byte, plain-decimal}, NamedWord.value_of-name, TextUtf8.utf8_of-whole}}
 use Rattle.named_value.specs.Names.{value_named, IsPlainWord}
-use Rattle.text_scan.proofs.{PlainWords.{hex_bytes_of-digits, hex_word_of-digits, one_byte, plain-decimal}, NamedWord.value_of-name, TextUtf8.utf8_of-whole}
 use Rattle.report_verifier.specs.{declared.verdict.Verdict.Verdict, Verdict.{verdict_name, verdict_names}}
-use Rattle.report_text.specs.{ReadBack.{IsPrintable, IsReadBack, IsPassedOver}, ReportFile.{with_report, with_line, reports_of}, ReportLine.{no_report_of, report_line_of}, VerdictLine.verdict_line}
-use Rattle.report_text.proofs.ReportWords.{report_pieces, word_shown, report_line_of-pieces, count_of-decimal, flag_of-digit, pieces-report}
+use Rattle.report_text.{specs.{ReadBack.{IsPrintable, IsReadBack, IsPassedOver}, ReportFile.{with_report, with_line, reports_of}, ReportLine.{no_report_of, report_line_of}, VerdictLine.verdict_line}, proofs.ReportWords.{report_pieces, word_shown, report_line_of-pieces, count_of-decimal, flag_of-digit, pieces-report}}
 
 -- What a text says, whatever stands before and behind it: these lines, and these reports of them.
 pub record ReadsAs (text : List ℕ) (reports : List ReportFields) : Type 0 where

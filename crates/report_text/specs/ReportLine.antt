@@ -1,6 +1,5 @@
 -- The lines of a report file: what each says, and its first fault.
-use Rattle.std.specs.Prelude.{false, ℕ, ◌==◌, Bool, List, [], ◌∷◌, if◌then◌else◌, Option, Some, None, Result, Ok, Err, codes}
-use Rattle.std.specs.Str.{bytes_eq}
+use Rattle.std.specs.{Prelude.{false, ℕ, ◌==◌, Bool, List, [], ◌∷◌, if◌then◌else◌, Option, Some, None, Result, Ok, Err, codes}, Str.bytes_eq}
 use Rattle.device_types.specs.{declared.{bounds.Bounds.Bounds, version.Version.{Version, TheVariants.{One, Two}}}, Report.ReportFields, Rule.rule_names}
 use Rattle.text_scan.specs.{declared.fault_kind.FaultKind.{FaultKind, TheVariants.Word}, WordValue.{ends_of, number_of, place_of, hex_block_of, value_of}, Hexadecimal.even_bytes_of, Reader.◌>>=◌, Word.{next_word, keyword_of, end_of}}
 use Rattle.report_verifier.specs.Verdict.{verdict_names}

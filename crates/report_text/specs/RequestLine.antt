@@ -1,6 +1,5 @@
 -- The line of a request for an attestation.
-use Rattle.std.specs.Prelude.{ℕ, List, [], ◌∷◌, codes}
-use Rattle.std.specs.Fmt.{decimal}
+use Rattle.std.specs.{Prelude.{ℕ, List, [], ◌∷◌, codes}, Fmt.decimal}
 use Rattle.hex.specs.Hex.{encode_lower}
 use Rattle.device_types.specs.Address.{Bytes}
 use Rattle.printed_lines.specs.Line.{line_of}

@@ -1,5 +1,4 @@
-ghost use Rattle.std.specs.Prelude.{◌≡◌, List, [], Some};
-ghost use Rattle.std.specs.Result.{result_map_both};
+ghost use Rattle.std.specs.{Prelude.{◌≡◌, List, [], Some}, Result.result_map_both};
 ghost use Rattle.device_types.specs.Report.{ReportFields};
 ghost use Rattle.text_scan.specs.{LineFold.TakesLine, Reader.Reads};
 ghost use Rattle.report_text.specs.ReportFile.{with_report, with_line, reports_of};

@@ -1,9 +1,5 @@
 -- The pair of two messages with one HMAC is of bytes.
-use Rattle.std.proofs.Common.{◌<◌, ◌-◌, ◌++◌, ℕ, List, Bool, true, false, length, replicate, arith}
-use Rattle.std.specs.Prelude.{nat_lt, bit_xor, if◌then◌else◌}
-use Rattle.std.specs.Str.{bytes_eq}
-use Rattle.std.proofs.lemmas.Nat.{xor_of_8}
-use Rattle.std.proofs.lemmas.List.Elements.{All-append, All-map, All-replicate, All-weaker}
+use Rattle.std.{proofs.{Common.{◌<◌, ◌-◌, ◌++◌, ℕ, List, Bool, true, false, length, replicate, arith}, lemmas.{Nat.xor_of_8, List.Elements.{All-append, All-map, All-replicate, All-weaker}}}, specs.{Prelude.{nat_lt, bit_xor, if◌then◌else◌}, Str.bytes_eq}}
 use Rattle.part_definitions.specs.Hmac.{block_of, key_block, with_mask, inner_input, inner_digest, outer_input}
 use Rattle.report_verifier.specs.Collision.{AreBytes, GivesBytes, colliding_pair}
 

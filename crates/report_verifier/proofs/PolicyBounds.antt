@@ -1,7 +1,5 @@
 -- The bounds of a policy that is read are valid.
-use Rattle.std.proofs.Common.{◌≡◌, ℕ, List, [], ◌∷◌, Bool, true, false, Result, Ok, Err, IfOk, refl, length}
-use Rattle.std.specs.Prelude.{if◌then◌else◌}
-use Rattle.std.specs.Str.Lines.{lines}
+use Rattle.std.{proofs.Common.{◌≡◌, ℕ, List, [], ◌∷◌, Bool, true, false, Result, Ok, Err, IfOk, refl, length}, specs.{Prelude.if◌then◌else◌, Str.Lines.lines}}
 use Rattle.device_types.specs.{declared.{bounds.Bounds.Bounds, version.Version.{Version, TheVariants.{One, Two}}}}
 use Rattle.text_scan.specs.{declared.{fault_at.FaultAt.FaultAt, fault_kind.FaultKind.FaultKind}, LineFold.{text_lines, lines_fold, text_fold, utf8_of}, Reader.{◌>>=◌, in_line}, Word.{is_passed_over, words_of}}
 use Rattle.text_scan.specs.declared.fault_kind.FaultKind.TheVariants as kinds

@@ -1,8 +1,7 @@
 -- Pieces that are put behind one another in an array, where they fit.
 use Rattle.std.proofs.{Common.{◌≡◌, ◌≤◌, ◌+◌, ◌-◌, ◌++◌, ◌∙◌, ◌∷◌, [], ℕ, List, length, refl, ap, arith, length-append, append_assoc, sym, take}, Math.Seq.take-append_seam}
-use Rattle.part_definitions.specs.{Memory.bytes_from, Region.bytes_between}
+use Rattle.part_definitions.{specs.{Memory.bytes_from, Region.bytes_between}, proofs.BytesFrom.{length-bytes_from, bytes_between-span}}
 use Rattle.report_verifier.proofs.CodeBytes.{append-byte}
-use Rattle.part_definitions.proofs.BytesFrom.{length-bytes_from, bytes_between-span}
 
 -- Pieces that are appended one by one, and the first of them.
 

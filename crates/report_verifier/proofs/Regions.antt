@@ -1,7 +1,6 @@
 -- How many bytes valid regions have together with the metadata.
 use Rattle.std.proofs.Common.{◌≡◌, ◌+◌, ◌-◌, ◌≤◌, ◌<◌, ◌⊎◌, ℕ, true, inl, inr, refl, arith}
-use Rattle.device_types.specs.{declared.{bounds.Bounds.Bounds, region.Region.Region, version.Version.{Version, TheVariants.{One, Two}}}}
-use Rattle.device_types.proofs.ValidRange.{IsValidRange, AreValidRanges, are_valid-ranges}
+use Rattle.device_types.{specs.declared.{bounds.Bounds.Bounds, region.Region.Region, version.Version.{Version, TheVariants.{One, Two}}}, proofs.ValidRange.{IsValidRange, AreValidRanges, are_valid-ranges}}
 use Rattle.report_verifier.specs.Validity.{metadata_of, metadata_len, are_valid_for}
 
 -- metadata that begin at 0240 and end below the program

@@ -1,6 +1,5 @@
 -- What a verifier expects a report's MAC to be of.
-use Rattle.std.specs.Prelude.{◌++◌, ℕ, Bool, List, [], ◌∷◌, Option, Some, None}
-use Rattle.std.specs.Int.{w32, to_le_bytes}
+use Rattle.std.specs.{Prelude.{◌++◌, ℕ, Bool, List, [], ◌∷◌, Option, Some, None}, Int.{w32, to_le_bytes}}
 use Rattle.word_arith.specs.Number.{bit_of}
 use Rattle.device_types.specs.{declared.{bounds.Bounds.Bounds, version.Version.{Version, TheVariants.{One, Two}}}, Report.ReportFields}
 use Rattle.part_definitions.specs.{Attestation.{bytes_of_words, attestation_tag}, Region.bytes_between, Request.request_token}

@@ -1,7 +1,6 @@
 -- What a policy says: the bounds and the flag that reports shall name, and the requests that were
 -- sent.
-use Rattle.std.specs.Prelude.{ℕ, List, Option, Some, None}
-use Rattle.std.specs.List.{slice_get}
+use Rattle.std.specs.{Prelude.{ℕ, List, Option, Some, None}, List.slice_get}
 use Rattle.device_types.specs.{declared.{bounds.Bounds.Bounds, version.Version.Version}}
 use Rattle.report_verifier.specs.{declared.{flag_kind.FlagKind.FlagKind, asked.Asked.Asked, expect.Expect.Expect}}
 

@@ -1,9 +1,6 @@
 -- The grammar of a policy, and its first fault. Version 1 is `er`, then `or`, then challenges;
 -- version 2 is `version 2`, then `er`, `or` and `flag`, then requests.
-use Rattle.std.specs.Prelude.{ℕ, ◌==◌, ◌&&◌, Bool, List, [], ◌∷◌, ◌++◌, length, if◌then◌else◌, Result, Ok, Err, codes}
-use Rattle.std.specs.List.{list_any}
-use Rattle.std.specs.Str.{bytes_eq}
-use Rattle.std.specs.Str.Lines.{lines}
+use Rattle.std.specs.{Prelude.{ℕ, ◌==◌, ◌&&◌, Bool, List, [], ◌∷◌, ◌++◌, length, if◌then◌else◌, Result, Ok, Err, codes}, List.list_any, Str.{bytes_eq, Lines.lines}}
 use Rattle.device_types.specs.{declared.{bounds.Bounds.Bounds, version.Version.{Version, TheVariants.{One, Two}}}}
 use Rattle.text_scan.specs.{declared.{fault_at.FaultAt.FaultAt, fault_kind.FaultKind.{FaultKind, TheVariants.{Word, Missing, Order, Twice}}}, WordValue.{ends_of, hex_block_of, number_of}, LineFold.text_fold, Reader.◌>>=◌, Word.{words_of, next_word, end_of}}
 use Rattle.text_scan.specs.declared.fault_kind.FaultKind.TheVariants as kinds

@@ -1,5 +1,4 @@
-ghost use Rattle.std.specs.Prelude.{◌≡◌, ◌<◌, ◌⊎◌, ℕ, List, [], ◌∷◌, Option, Ok, IfOk, IsTrue};
-ghost use Rattle.std.specs.declared.alloc.AllocError.{AllocError};
+ghost use Rattle.std.specs.{Prelude.{◌≡◌, ◌<◌, ◌⊎◌, ℕ, List, [], ◌∷◌, Option, Ok, IfOk, IsTrue}, declared.alloc.AllocError.AllocError};
 ghost use Rattle.device_types.specs.Report.{ReportFields};
 ghost use Rattle.part_definitions.specs.Hmac.{hmac};
 ghost use Rattle.report_verifier.specs.{declared.{evidence.Exhibit.TheVariants.MacsDiffer, expect.Expect.Expect}, Acceptance.{IsAccepted, StandsAsExpected}, Collision.{AreBytes, Collides, Exhibits, GivesBytes, HaveOneMac, colliding_pair}, Comparison.{expected_bytes, expected_key, own_bytes}, PolicyGrammar.policy_of, Validity.are_valid_for};

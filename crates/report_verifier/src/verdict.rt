@@ -1,6 +1,4 @@
-ghost use Rattle.std.specs.Prelude.{◌≡◌, IsTrue, option_map};
-ghost use Rattle.std.specs.Option.{ForSome};
-ghost use Rattle.std.proofs.Common.{rules};
+ghost use Rattle.std.{specs.{Prelude.{◌≡◌, IsTrue, option_map}, Option.ForSome}, proofs.Common.rules};
 ghost use Rattle.sha2.specs.Sha256.{sha256};
 ghost use Rattle.device_types.specs.Report.{fields_of};
 ghost use Rattle.mem_map.specs.Image.{byte_in};

@@ -1,13 +1,10 @@
 -- The bytes of the kept counter at the moments of a call, and so what a step does to them.
-use Rattle.std.proofs.{Common.{◌≡◌, ℕ, suc, ◌+◌, ◌-◌, ◌<◌, ◌≤◌, Bool, true, false, not, List, [], ◌∷◌, ◌++◌, take, drop, ◌⊎◌, inl, inr, length, refl, ap, sym, ◌∙◌, arith, subst, ◌*◌, ◌/◌, Option, Some, None}, lemmas.Bool.{and_from, cases_Bool, cases_lt, cond-false, cond-true, eqb-true, leb-false, Decides.nat_tests}}
-use Rattle.std.specs.{Str.bytes_eq, Prelude.{◌==◌, is_some, nat_le, IsTrue, if◌then◌else◌, ◌&&◌, ◌||◌}}
+use Rattle.std.{proofs.{Common.{◌≡◌, ℕ, suc, ◌+◌, ◌-◌, ◌<◌, ◌≤◌, Bool, true, false, not, List, [], ◌∷◌, ◌++◌, take, drop, ◌⊎◌, inl, inr, length, refl, ap, sym, ◌∙◌, arith, subst, ◌*◌, ◌/◌, Option, Some, None}, lemmas.Bool.{and_from, cases_Bool, cases_lt, cond-false, cond-true, eqb-true, leb-false, Decides.nat_tests}}, specs.{Str.bytes_eq, Prelude.{◌==◌, is_some, nat_le, IsTrue, if◌then◌else◌, ◌&&◌, ◌||◌}}}
 use Rattle.device_types.specs.{declared.{bus_record.BusRecord.BusRecord, event.Event.Event, kind.Kind.{Kind, TheVariants.Rom}, access.Access.{Access, TheVariants.{Fetch, Read, Write}}, rule.Rule.Rule, signals.Signals.Signals}, Kind.is_rom, Map.{ROM_ENTRY, lies_in, some_touches, stack_region}, Address.Bytes, ExecFlag.last_pc}
-use Rattle.part_definitions.specs.{Metadata.{counter_in, little_endian, token_in, kept_bytes}, Request.{ATTESTS, request_decision, right_token}, Hmac.Digest, CpuState.cpu_pc, FirstRule.first_rule, Memory.{MemoryWrite, first_byte, last_written, takes_write, with_access}, MonitorRule.in_rom}
-use Rattle.part_definitions.proofs.CallItems.{first_pc}
+use Rattle.part_definitions.{specs.{Metadata.{counter_in, little_endian, token_in, kept_bytes}, Request.{ATTESTS, request_decision, right_token}, Hmac.Digest, CpuState.cpu_pc, FirstRule.first_rule, Memory.{MemoryWrite, first_byte, last_written, takes_write, with_access}, MonitorRule.in_rom}, proofs.CallItems.first_pc}
 use Rattle.device_trace.specs.{Trace.{Play, logs_after, trace}, Logs.{Logs, step_progress, vector_of, with_events, logged_byte, memory_after, with_record}, Progress.{InCall, Progress, Held, Runs, access_of, last_registers, next_pc_of}, Signals.{step_kind, signals_at, signals_of, value_read}, Step.{asks_reset, next_record, dma_value_read, record_from, record_of}, Start.Start}
 use Rattle.trace_facts.proofs.{SoundPlay.{logs_after-sound, LogsAreSound, within_unrefused}, BreaksNoRule.{BreaksNoRule, first_rule-none}, ExecFlag.first_false, BoundsStay.{MissesPlace, last_written-missed}, Sound.IsWithin}
-use Rattle.mac_coverage.specs.{AttestedBytes.{AttestedBytes, counter_left, decision_of}, Coverage.{begins_call, ends_in_call, ends_refused, last_call, MacCoversCall, attested_after, before_call, call_length, kept_after, kept_within}}
-use Rattle.mac_coverage.proofs.{Calls.{attested-is, entry_at, log_at}, Device.{Device, start_of}, KeptStored.{kept-early, kept-late, kept-same, takes}, Plays.{outcome_at, play_stands, rom_kind, call_begun}, PlaySteps.{CallGoesOn, LastWroteHighWord, entry-kind, entry-pc, kept-is, plan_of}, Steps.{IsOfCall, OnCall, rom_step-of_call}, WordPlan.{IsCounter, planned_counter-is}}
+use Rattle.mac_coverage.{specs.{AttestedBytes.{AttestedBytes, counter_left, decision_of}, Coverage.{begins_call, ends_in_call, ends_refused, last_call, MacCoversCall, attested_after, before_call, call_length, kept_after, kept_within}}, proofs.{Calls.{attested-is, entry_at, log_at}, Device.{Device, start_of}, KeptStored.{kept-early, kept-late, kept-same, takes}, Plays.{outcome_at, play_stands, rom_kind, call_begun}, PlaySteps.{CallGoesOn, LastWroteHighWord, entry-kind, entry-pc, kept-is, plan_of}, Steps.{IsOfCall, OnCall, rom_step-of_call}, WordPlan.{IsCounter, planned_counter-is}}}
 use Rattle.word_arith.specs.declared.size.Size.TheVariants.{Byte, Word}
 
 -- A step that is none of a call, or is refused, leaves the kept counter.

@@ -1,17 +1,10 @@
 -- The kept counter moves in calls on requests with the right token alone.
-use Rattle.std.proofs.Common.{◌≡◌, ℕ, ◌+◌, ◌*◌, ◌/◌, ◌<◌, Bool, true, false, not, List, ◌∷◌, ◌++◌, take, drop, inl, inr, refl, ap, sym, ◌∙◌, arith, subst}
-use Rattle.std.specs.Prelude.{◌==◌, nat_le, slice_index}
-use Rattle.std.specs.Str.{bytes_eq}
-use Rattle.std.proofs.lemmas.Bool.{cases_Bool, cond-false, cond-true, eqb-true, not-false}
-use Rattle.std.proofs.lemmas.List.{take-append-drop}
-use Rattle.std.proofs.lemmas.Slice.Eq.{bytes_eq-Decides}
+use Rattle.std.{proofs.{Common.{◌≡◌, ℕ, ◌+◌, ◌*◌, ◌/◌, ◌<◌, Bool, true, false, not, List, ◌∷◌, ◌++◌, take, drop, inl, inr, refl, ap, sym, ◌∙◌, arith, subst}, lemmas.{Bool.{cases_Bool, cond-false, cond-true, eqb-true, not-false}, List.take-append-drop, Slice.Eq.bytes_eq-Decides}}, specs.{Prelude.{◌==◌, nat_le, slice_index}, Str.bytes_eq}}
 use Rattle.device_types.specs.{declared.event.Event.Event, ExecFlag.SeenHistory, Address.{Bytes, Contents}}
 use Rattle.part_definitions.specs.{Metadata.{counter_in, kept_bytes, little_endian, token_in}, Request.{ATTESTS, right_token, request_decision}, Hmac.Digest}
 use Rattle.device_trace.specs.{Trace.{Play, byte_after}, Start.with_key}
-use Rattle.mac_coverage.specs.{AttestedBytes.{AttestedBytes, counter_left, decision_of}, Coverage.{IsDeviceKey, IsOfBytes}}
-use Rattle.mac_coverage.proofs.{Device.{Device, start_of}, KeptStored.four, WordPlan.IsCounter}
-use Rattle.request_freshness.specs.Freshness.{IsRightlyRequested, kept_counter}
-use Rattle.request_freshness.proofs.{Moments.{CallMoments, choice, left_by, each_step}, Grows.device_of}
+use Rattle.mac_coverage.{specs.{AttestedBytes.{AttestedBytes, counter_left, decision_of}, Coverage.{IsDeviceKey, IsOfBytes}}, proofs.{Device.{Device, start_of}, KeptStored.four, WordPlan.IsCounter}}
+use Rattle.request_freshness.{specs.Freshness.{IsRightlyRequested, kept_counter}, proofs.{Moments.{CallMoments, choice, left_by, each_step}, Grows.device_of}}
 
 -- a request that is attested has the right token
 first_choice : (other old : Bool) → choice other old ≡ ATTESTS → other ≡ false

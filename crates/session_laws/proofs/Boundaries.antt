@@ -1,7 +1,5 @@
 -- The next boundary behind a place.
-use Rattle.std.proofs.Common.{◌≡◌, ◌<◌, ◌≤◌, ◌+◌, ◌-◌, ◌⊎◌, ℕ, zero, suc, Bool, true, false, List, [], length, inl, inr, refl, ap, sym, ◌∙◌, arith, eq-or-lt_of_le}
-use Rattle.std.specs.Prelude.{if◌then◌else◌}
-use Rattle.std.proofs.lemmas.Bool.{true≢false}
+use Rattle.std.{proofs.{Common.{◌≡◌, ◌<◌, ◌≤◌, ◌+◌, ◌-◌, ◌⊎◌, ℕ, zero, suc, Bool, true, false, List, [], length, inl, inr, refl, ap, sym, ◌∙◌, arith, eq-or-lt_of_le}, lemmas.Bool.true≢false}, specs.Prelude.if◌then◌else◌}
 use Rattle.debug_session.specs.{Request.most_steps, Cause.ahead, Sight.{Sight, View}}
 use Rattle.session_laws.specs.DebuggerSecrecy.{next_boundary}
 

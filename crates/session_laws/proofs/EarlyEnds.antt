@@ -1,11 +1,8 @@
 -- An interrupt ends a way at a boundary on it, or where it began, or changes nothing.
-use Rattle.std.proofs.{Common.{◌≡◌, ◌≤◌, ◌<◌, ◌+◌, ◌-◌, ◌⊎◌, inl, inr, ⊎_elim, ℕ, Bool, true, List, Option, Some, None, refl, ap, sym, subst, arith, ◌∙◌, ◌++◌, zero, suc, [], ◌∷◌, length, take, drop, map, append_assoc}, lemmas.{Bool.{and_parts, cases_Bool, cond-false, cond-true, eqb-true, or_cases}, List.{append-nil, length-drop, map-append, take-append-drop, Folds.concat-append}}}
-use Rattle.std.specs.{Prelude.{◌==◌, ◌&&◌, ◌||◌}, List.concat}
+use Rattle.std.{proofs.{Common.{◌≡◌, ◌≤◌, ◌<◌, ◌+◌, ◌-◌, ◌⊎◌, inl, inr, ⊎_elim, ℕ, Bool, true, List, Option, Some, None, refl, ap, sym, subst, arith, ◌∙◌, ◌++◌, zero, suc, [], ◌∷◌, length, take, drop, map, append_assoc}, lemmas.{Bool.{and_parts, cases_Bool, cond-false, cond-true, eqb-true, or_cases}, List.{append-nil, length-drop, map-append, take-append-drop, Folds.concat-append}}}, specs.{Prelude.{◌==◌, ◌&&◌, ◌||◌}, List.concat}}
 use Rattle.debug_link.specs.{Conversation.Answer, Console.{MOST_TEXT, console, console_bodies, text_body}}
-use Rattle.debug_session.specs.{Command.command_of, Request.most_steps, declared.{command.{Command.{Command, TheVariants.Go}, Going.Going, Way.{Way, TheVariants.{Ahead, Back}}}, stop.Stop.{Stop, TheVariants.{Begin, End, Interrupted}}}, Cause.cause, Going.{Standing, lies_between, seek_of, where_to}, Place.{Run, view_of, play_to}, Session.{Session, answer_of, goes, lines_to, reply, stands_at, told_lines}}
-use Rattle.debug_session.proofs.Between.{between-is}
-use Rattle.session_laws.specs.{EarlyEnd.{EndsEarly, LedTo, MayEndEarly, TellsBetween}, FirstStop.HasStopped, StepBack.MayStandAt}
-use Rattle.session_laws.proofs.{FirstStops.{stops-first, stops-last}, Sessions.gone-stands, ShownPlays.lines-more}
+use Rattle.debug_session.{specs.{Command.command_of, Request.most_steps, declared.{command.{Command.{Command, TheVariants.Go}, Going.Going, Way.{Way, TheVariants.{Ahead, Back}}}, stop.Stop.{Stop, TheVariants.{Begin, End, Interrupted}}}, Cause.cause, Going.{Standing, lies_between, seek_of, where_to}, Place.{Run, view_of, play_to}, Session.{Session, answer_of, goes, lines_to, reply, stands_at, told_lines}}, proofs.Between.between-is}
+use Rattle.session_laws.{specs.{EarlyEnd.{EndsEarly, LedTo, MayEndEarly, TellsBetween}, FirstStop.HasStopped, StepBack.MayStandAt}, proofs.{FirstStops.{stops-first, stops-last}, Sessions.gone-stands, ShownPlays.lines-more}}
 use Rattle.device_trace.specs.Text.{lines_of}
 
 -- The pieces of the lines that are told.

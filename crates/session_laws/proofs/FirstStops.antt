@@ -1,6 +1,5 @@
 -- The scans find the first cause ahead and the last one before.
-use Rattle.std.proofs.Common.{◌≡◌, ◌<◌, ◌≤◌, ◌+◌, ◌-◌, ◌⊎◌, ℕ, zero, suc, Option, Some, None, inl, inr, ⊎_elim, refl, ap, subst, arith}
-use Rattle.std.proofs.lemmas.Bool.{cases_lt}
+use Rattle.std.proofs.{Common.{◌≡◌, ◌<◌, ◌≤◌, ◌+◌, ◌-◌, ◌⊎◌, ℕ, zero, suc, Option, Some, None, inl, inr, ⊎_elim, refl, ap, subst, arith}, lemmas.Bool.cases_lt}
 use Rattle.debug_session.specs.{Request.most_steps, declared.{command.{Going.Going, Way.TheVariants.{Ahead, Back}}, stop.Stop.{Stop, TheVariants.{Begin, End}}}, Cause.cause as cause_at, Going.{Standing, first_stop, last_stop, seek_of, standing_at, where_to}, Sight.View, Stops.Stops}
 use Rattle.session_laws.specs.FirstStop.{HasStopped, IsFirstStop, IsLastStop}
 

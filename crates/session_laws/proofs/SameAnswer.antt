@@ -1,12 +1,10 @@
 -- What is answered in two views that are the same up to behind where the session stands then.
-use Rattle.std.proofs.Common.{◌≡◌, ◌≤◌, ◌-◌, ◌++◌, ℕ, List, [], ◌∷◌, Option, Some, min, refl, ap, sym, ◌∙◌, arith}
-use Rattle.std.specs.Prelude.{codes}
+use Rattle.std.{proofs.Common.{◌≡◌, ◌≤◌, ◌-◌, ◌++◌, ℕ, List, [], ◌∷◌, Option, Some, min, refl, ap, sym, ◌∙◌, arith}, specs.Prelude.codes}
 use Rattle.device_types.specs.declared.rule.Rule.{Rule}
 use Rattle.printed_lines.specs.Line.{reset_line}
 use Rattle.debug_link.specs.{Console.console, declared.connection.Connection.TheVariants.Open}
 use Rattle.debug_session.specs.{declared.{stop.Stop.{Stop, TheVariants.Refused}, command.{Command.{Command, TheVariants.{Registers, Memory, Go, Monitor}}, Going.Going, Way.{Way, TheVariants.{Ahead, Back}}}, request.Request.{Request, TheVariants.{Flags, Play as PlayText, Trace}}}, Command.command_of, Request.most_steps, Cause.{ahead, refusal}, Going.{Standing, interrupted, where_to}, Monitor.{flags_text, request_text}, Session.{Session, after_request, answer_of, goes, lines_to, reply, says, stands_at, refusal_warning}, Shown.{memory_body, registers_shown}, Sight.View}
-use Rattle.session_laws.specs.DebuggerSecrecy.{next_boundary}
-use Rattle.session_laws.proofs.{Boundaries.boundary-behind, SameSights.{IsSameTo, memory-still, refused-same, texts-same, told-same}, SameWay.{gone-same, gone-tells}}
+use Rattle.session_laws.{specs.DebuggerSecrecy.next_boundary, proofs.{Boundaries.boundary-behind, SameSights.{IsSameTo, memory-still, refused-same, texts-same, told-same}, SameWay.{gone-same, gone-tells}}}
 
 module _ (last : ℕ) (left right : View) (same : IsSameTo last left right) where
   warning-same : (place : ℕ) (stop : Stop) → next_boundary left place ≤ last

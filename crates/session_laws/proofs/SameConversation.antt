@@ -1,14 +1,11 @@
 -- A conversation is the same without the key, and under two keys whose released words agree.
-use Rattle.std.proofs.{Common.{◌≡◌, ◌++◌, ◌∙◌, ℕ, zero, suc, List, [], ◌∷◌, length, drop, refl, ap, sym, subst, ◌≤◌, ◌<◌, ◌+◌, ◌-◌, Option, Some, None, Result, Ok, Err, IfOk, arith, ⊎_elim}, lemmas.Bool.{cases_Bool, Decides.nat_tests}}
-use Rattle.std.specs.Prelude.{codes, nat_lt}
+use Rattle.std.{proofs.{Common.{◌≡◌, ◌++◌, ◌∙◌, ℕ, zero, suc, List, [], ◌∷◌, length, drop, refl, ap, sym, subst, ◌≤◌, ◌<◌, ◌+◌, ◌-◌, Option, Some, None, Result, Ok, Err, IfOk, arith, ⊎_elim}, lemmas.Bool.{cases_Bool, Decides.nat_tests}}, specs.Prelude.{codes, nat_lt}}
 use Rattle.device_types.specs.Address.{Bytes}
 use Rattle.source_server.specs.HeldLine.{short_line}
 use Rattle.device_trace.specs.{Trace.{Play, released_words}, Start.Start}
-use Rattle.key_isolation.specs.Keyless.{ReleaseAlike, SameButKey, keyless}
-use Rattle.key_isolation.proofs.{Hiding.open_start, TwoKeys.one_keyless}
-use Rattle.session_laws.proofs.WithoutKey.{Released, released_before, GoesOn, same_without_key, LeadsOn, goes-nowhere, happening-goes, SameRuns, bytes-same}
+use Rattle.key_isolation.{specs.Keyless.{ReleaseAlike, SameButKey, keyless}, proofs.{Hiding.open_start, TwoKeys.one_keyless}}
+use Rattle.session_laws.{proofs.WithoutKey.{Released, released_before, GoesOn, same_without_key, LeadsOn, goes-nowhere, happening-goes, SameRuns, bytes-same}, specs.LivingSecrecy.{AnswersAlike, IsOneTalk, lived_behind}}
 use Rattle.device_live.specs.{Answer.{Answer, or_refusal, run_of, standing_line, answer_of, says, tells, memory_text, registers_text}, Conversation.{Talk, answer_to, talk_of, with_answer, with_line}, Life.{Life, play_lived, lines_since}, LiveLine.{LiveLine, Happens, Run, Registers, Memory, live_line_of}}
-use Rattle.session_laws.specs.LivingSecrecy.{AnswersAlike, IsOneTalk, lived_behind}
 use Rattle.printed_lines.specs.Line.{place_line}
 use Rattle.text_scan.specs.{Reader.◌>>=◌, Word.{is_passed_over, words_of}, declared.fault_kind.FaultKind.FaultKind}
 use Rattle.debug_session.specs.Place.{Run as PlayedRun, logs_at}

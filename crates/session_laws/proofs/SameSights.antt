@@ -1,6 +1,5 @@
 -- Two views that are the same of so many steps: what is read of them there.
-use Rattle.std.proofs.Common.{◌≡◌, ◌<◌, ◌≤◌, ◌+◌, ◌-◌, ℕ, zero, suc, Bool, true, false, List, [], ◌∷◌, ◌++◌, Option, Some, None, length, min, refl, ap, sym, ◌∙◌, arith}
-use Rattle.std.specs.Prelude.{◌==◌, is_some, if◌then◌else◌}
+use Rattle.std.{proofs.Common.{◌≡◌, ◌<◌, ◌≤◌, ◌+◌, ◌-◌, ℕ, zero, suc, Bool, true, false, List, [], ◌∷◌, ◌++◌, Option, Some, None, length, min, refl, ap, sym, ◌∙◌, arith}, specs.Prelude.{◌==◌, is_some, if◌then◌else◌}}
 use Rattle.device_types.specs.declared.rule.Rule.{Rule}
 use Rattle.debug_link.specs.Console.{console}
 use Rattle.debug_session.specs.{Stops.Stops, Cause.{Seek, Step, ahead, behind, sights_between, cause, cause_here, hit_on, hits, is_plain, refusal, refusal_or, steps_over, stop_of}, Monitor.texts_from, Place.no_step, Session.{refused_step, told_lines}, Shown.{bytes_or, bytes_shown, byte_and, memory_body}, Sight.{Sight, StepSight, View}}

@@ -1,14 +1,11 @@
 -- So a debugger tells the same of both, and of a device the same as without its key.
-use Rattle.std.proofs.Common.{◌≡◌, ◌≤◌, ◌++◌, ℕ, zero, suc, Bool, true, false, List, [], ◌∷◌, Option, length, max, nat_lt, refl, ap, sym, subst, ◌∙◌, arith}
-use Rattle.std.specs.Prelude.{if◌then◌else◌, take}
+use Rattle.std.{proofs.Common.{◌≡◌, ◌≤◌, ◌++◌, ℕ, zero, suc, Bool, true, false, List, [], ◌∷◌, Option, length, max, nat_lt, refl, ap, sym, subst, ◌∙◌, arith}, specs.Prelude.{if◌then◌else◌, take}}
 use Rattle.device_types.specs.declared.event.Event.{Event}
 use Rattle.device_trace.specs.{Start.Start, Trace.{play_of, released_words}}
-use Rattle.key_isolation.specs.Keyless.{ReleaseAlike, SameButKey, keyless}
-use Rattle.key_isolation.proofs.TwoKeys.{one_keyless}
+use Rattle.key_isolation.{specs.Keyless.{ReleaseAlike, SameButKey, keyless}, proofs.TwoKeys.one_keyless}
 use Rattle.debug_link.specs.{Conversation.{Answer, Input, LONGEST_BODY, Talk, answer_to, talk_after_message, first_talk, with_mark, talk_with_byte, talk_with_inputs, with_answer}, Link.{Message, Silence, Again, Damage, Whole, message_of}, declared.connection.Connection.TheVariants.Open}
 use Rattle.debug_session.specs.{Place.{Run, view_of}, Session.{Session, first_session, reply}, Sight.View}
-use Rattle.session_laws.specs.DebuggerSecrecy.{furthest, gone_to, next_boundary, steps_gone, TellsTheSame, run_of}
-use Rattle.session_laws.proofs.{Boundaries.{boundary-behind, boundary-later}, SameAnswer.reply-same, SameSights.{IsSameTo, joined, turned}, WithoutKey.view-same}
+use Rattle.session_laws.{specs.DebuggerSecrecy.{furthest, gone_to, next_boundary, steps_gone, TellsTheSame, run_of}, proofs.{Boundaries.{boundary-behind, boundary-later}, SameAnswer.reply-same, SameSights.{IsSameTo, joined, turned}, WithoutKey.view-same}}
 
 furthest-from : (view : View) (talk : Talk Session) (inputs : List (Input ℕ))
     → talk.session.place ≤ furthest view talk inputs

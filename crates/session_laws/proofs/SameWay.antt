@@ -1,12 +1,8 @@
 -- Where a debugger goes to in two views that are the same up to behind there.
-use Rattle.std.proofs.Common.{◌≡◌, ◌<◌, ◌≤◌, ◌+◌, ◌-◌, ℕ, zero, suc, Bool, true, false, List, Option, Some, None, length, inl, inr, refl, ap, sym, subst, ◌∙◌, arith}
-use Rattle.std.specs.Prelude.{◌==◌, ◌&&◌, ◌||◌, if◌then◌else◌}
-use Rattle.std.proofs.lemmas.Bool.{and_from, and_left, and_parts, cases_Bool, cases_lt, eqb-true, or_cases}
+use Rattle.std.{proofs.{Common.{◌≡◌, ◌<◌, ◌≤◌, ◌+◌, ◌-◌, ℕ, zero, suc, Bool, true, false, List, Option, Some, None, length, inl, inr, refl, ap, sym, subst, ◌∙◌, arith}, lemmas.Bool.{and_from, and_left, and_parts, cases_Bool, cases_lt, eqb-true, or_cases}}, specs.Prelude.{◌==◌, ◌&&◌, ◌||◌, if◌then◌else◌}}
 use Rattle.device_types.specs.declared.rule.Rule.{Rule}
-use Rattle.debug_session.specs.{Request.most_steps, declared.{command.{Going.Going, Way.{Way, TheVariants.{Ahead, Back}}}, stop.Stop.{Stop, TheVariants.{Interrupted, Refused}}, watch.Hit.Hit}, Stops.Stops, Cause.{Seek, ahead, behind, sights_between, cause, cause_here, hit_on, hits, is_plain, refusal, steps_over, stop_of}, Going.{Standing, first_stop, interrupted, last_of, last_stop, lies_between, seek_of, standing_at, step_of, where_to}, Sight.{Sight, View}}
-use Rattle.debug_session.proofs.Between.{between-is, is-between}
-use Rattle.session_laws.specs.DebuggerSecrecy.{next_boundary}
-use Rattle.session_laws.proofs.{Boundaries.{boundary-behind, boundary-later, reach-few, reach-within}, SameSights.{IsSameTo, boundary-same, cause-same}}
+use Rattle.debug_session.{specs.{Request.most_steps, declared.{command.{Going.Going, Way.{Way, TheVariants.{Ahead, Back}}}, stop.Stop.{Stop, TheVariants.{Interrupted, Refused}}, watch.Hit.Hit}, Stops.Stops, Cause.{Seek, ahead, behind, sights_between, cause, cause_here, hit_on, hits, is_plain, refusal, steps_over, stop_of}, Going.{Standing, first_stop, interrupted, last_of, last_stop, lies_between, seek_of, standing_at, step_of, where_to}, Sight.{Sight, View}}, proofs.Between.{between-is, is-between}}
+use Rattle.session_laws.{specs.DebuggerSecrecy.next_boundary, proofs.{Boundaries.{boundary-behind, boundary-later, reach-few, reach-within}, SameSights.{IsSameTo, boundary-same, cause-same}}}
 
 standing-from : (place : ℕ) (found : Option Stop) (other : Standing) (at : ℕ)
     → at ≤ place → at ≤ other.place → at ≤ (standing_at place found other).place

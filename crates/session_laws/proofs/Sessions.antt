@@ -1,12 +1,8 @@
 -- A session stands where it may, whatever it is asked.
-use Rattle.std.proofs.Common.{◌≡◌, ◌<◌, ◌+◌, ◌⊎◌, inl, inr, ⊎_elim, ℕ, Bool, true, false, List, [], ◌∷◌, Option, Some, None, length, nat_lt, refl, ap, sym, subst, arith}
-use Rattle.std.specs.Prelude.{◌==◌, ◌&&◌, ◌||◌, if◌then◌else◌}
-use Rattle.std.proofs.lemmas.Bool.{and_parts, eqb-true, or_cases}
+use Rattle.std.{proofs.{Common.{◌≡◌, ◌<◌, ◌+◌, ◌⊎◌, inl, inr, ⊎_elim, ℕ, Bool, true, false, List, [], ◌∷◌, Option, Some, None, length, nat_lt, refl, ap, sym, subst, arith}, lemmas.Bool.{and_parts, eqb-true, or_cases}}, specs.Prelude.{◌==◌, ◌&&◌, ◌||◌, if◌then◌else◌}}
 use Rattle.debug_link.specs.{Conversation.{Answer, Input, LONGEST_BODY, Talk, talk_after_message, first_talk, with_mark, talk_with_byte, talk_with_inputs}, Link.{Message, Silence, Again, Damage, Whole, message_of}, declared.connection.Connection.TheVariants.Open}
-use Rattle.debug_session.specs.{Command.command_of, Request.most_steps, declared.{command.{Command.{Command, TheVariants.{Change, Go, Monitor}}, Going.Going, Way.{Way, TheVariants.{Ahead, Back}}}, request.Request.{Request, TheVariants.Until}, stop.Stop.TheVariants.{Begin, End, Interrupted}}, Stops.{Stops, with_change}, Cause.cause, Going.{Standing, interrupted, lies_between, seek_of, where_to}, Session.{Session, after_request, answer_of, first_session, reply, with_stops}, Sight.View}
-use Rattle.debug_session.proofs.Between.{between-is}
-use Rattle.session_laws.specs.{FirstStop.HasStopped, StepBack.{MayStandAt, session_after}}
-use Rattle.session_laws.proofs.{FirstStops.{stops-first, stops-last}, StepsBack.at-boundary}
+use Rattle.debug_session.{specs.{Command.command_of, Request.most_steps, declared.{command.{Command.{Command, TheVariants.{Change, Go, Monitor}}, Going.Going, Way.{Way, TheVariants.{Ahead, Back}}}, request.Request.{Request, TheVariants.Until}, stop.Stop.TheVariants.{Begin, End, Interrupted}}, Stops.{Stops, with_change}, Cause.cause, Going.{Standing, interrupted, lies_between, seek_of, where_to}, Session.{Session, after_request, answer_of, first_session, reply, with_stops}, Sight.View}, proofs.Between.between-is}
+use Rattle.session_laws.{specs.{FirstStop.HasStopped, StepBack.{MayStandAt, session_after}}, proofs.{FirstStops.{stops-first, stops-last}, StepsBack.at-boundary}}
 
 module _ (view : View) (stops : Stops) where
   pub gone-stands : (way : Way) (going : Going) (place : ℕ) → MayStandAt view place

@@ -1,14 +1,12 @@
 -- What is shown is of the play.
-use Rattle.std.proofs.{Common.{◌≡◌, ◌<◌, ◌≤◌, ◌+◌, ◌-◌, ◌%◌, ◌∙◌, ◌++◌, ⊎_elim, ℕ, zero, suc, true, false, List, [], ◌∷◌, Option, Some, None, drop, length, min, slice_index, refl, ap, sym, subst, arith, append_assoc}, Math.Nat.{min_comm, sub-add-min_cancel}, lemmas.{Bool.{cases_Bool, cond-false, cond-true, ne_eqb}, List.append-nil}}
-use Rattle.std.specs.{Prelude.{◌==◌, codes, if◌then◌else◌}, Fmt.decimal}
+use Rattle.std.{proofs.{Common.{◌≡◌, ◌<◌, ◌≤◌, ◌+◌, ◌-◌, ◌%◌, ◌∙◌, ◌++◌, ⊎_elim, ℕ, zero, suc, true, false, List, [], ◌∷◌, Option, Some, None, drop, length, min, slice_index, refl, ap, sym, subst, arith, append_assoc}, Math.Nat.{min_comm, sub-add-min_cancel}, lemmas.{Bool.{cases_Bool, cond-false, cond-true, ne_eqb}, List.append-nil}}, specs.{Prelude.{◌==◌, codes, if◌then◌else◌}, Fmt.decimal}}
 use Rattle.hex.specs.Hex.{encode_lower}
 use Rattle.word_arith.specs.declared.size.Size.TheVariants.{Byte}
 use Rattle.device_types.specs.declared.event.Event.{Event}
 use Rattle.device_trace.specs.{Logs.Logs, Trace.{Play, play_of}, Signals.number_read, Start.Start, Text.{end_line_after, lines_of, play_text}}
 use Rattle.trace_files.specs.{TraceText.{trace_text, next_line, trace_lines}, LineText.trace_line, declared.trace_line.TraceLine.TraceLine}
 use Rattle.debug_link.specs.{Console.console, Conversation.Answer, declared.connection.Connection.TheVariants.Open}
-use Rattle.debug_session.specs.{Request.most_steps, Monitor.{flags_text as flags_here, last_lines, texts_from}, Place.{Run, is_shown, logs_at, play_to, sight_at, view_of, step_sight}, Session.{Session, says}, Shown.{byte_and, bytes_or, bytes_shown, memory_body, registers_shown}, Sight.{Sight, StepSight, View}}
-use Rattle.debug_session.proofs.Views.{view-at, next-at}
+use Rattle.debug_session.{specs.{Request.most_steps, Monitor.{flags_text as flags_here, last_lines, texts_from}, Place.{Run, is_shown, logs_at, play_to, sight_at, view_of, step_sight}, Session.{Session, says}, Shown.{byte_and, bytes_or, bytes_shown, memory_body, registers_shown}, Sight.{Sight, StepSight, View}}, proofs.Views.{view-at, next-at}}
 use Rattle.session_laws.specs.ShownPlay.{AreRead, ShowsPlay, flags_text}
 
 -- The texts of a play are those of its steps, joined.

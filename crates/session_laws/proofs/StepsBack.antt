@@ -1,14 +1,10 @@
 -- A step is taken back by a step back.
-use Rattle.std.proofs.Common.{◌≡◌, ◌≤◌, ◌<◌, ◌+◌, ◌-◌, ◌∙◌, ◌⊎◌, inl, ⊎_elim, ℕ, Bool, true, false, List, [], ◌∷◌, Option, Some, None, length, refl, ap, sym, subst, arith}
-use Rattle.std.specs.Prelude.{◌&&◌, ◌||◌, nat_le, not, if◌then◌else◌}
-use Rattle.std.proofs.lemmas.Bool.{and_from, and_parts, and_right, cases_lt, false≢true, le-leb, le-ltb, not_from_false, or_cases, or_left, or_right}
+use Rattle.std.{proofs.{Common.{◌≡◌, ◌≤◌, ◌<◌, ◌+◌, ◌-◌, ◌∙◌, ◌⊎◌, inl, ⊎_elim, ℕ, Bool, true, false, List, [], ◌∷◌, Option, Some, None, length, refl, ap, sym, subst, arith}, lemmas.Bool.{and_from, and_parts, and_right, cases_lt, false≢true, le-leb, le-ltb, not_from_false, or_cases, or_left, or_right}}, specs.Prelude.{◌&&◌, ◌||◌, nat_le, not, if◌then◌else◌}}
 use Rattle.device_types.specs.{Kind.{is_cpu, is_rom}, declared.rule.Rule.Rule}
 use Rattle.part_definitions.specs.CpuRegister.{pc_of}
-use Rattle.debug_session.specs.{Request.most_steps, declared.{command.Way.TheVariants.{Ahead, Back}, stop.Stop.{Stop, TheVariants.{End, Plain, Stepped}}, watch.Hit.Hit}, Stops.Stops, Watched.{first_hit, last_hit}, Cause.{Seek, Step, ahead, begins_within, behind, boots, cause, cause_here, hit_on, hits, is_plain, is_within, refusal, steps_over, stop_of}, Going.{Standing, seek_of, where_to}, Sight.{Sight, View}}
+use Rattle.debug_session.{specs.{Request.most_steps, declared.{command.Way.TheVariants.{Ahead, Back}, stop.Stop.{Stop, TheVariants.{End, Plain, Stepped}}, watch.Hit.Hit}, Stops.Stops, Watched.{first_hit, last_hit}, Cause.{Seek, Step, ahead, begins_within, behind, boots, cause, cause_here, hit_on, hits, is_plain, is_within, refusal, steps_over, stop_of}, Going.{Standing, seek_of, where_to}, Sight.{Sight, View}}, proofs.{Scans.{first-at, last-at}, Stretches.{HasBegin, ahead-behind, behind-first, has-begin}}}
 use Rattle.debug_session.specs.declared.command.Going.TheVariants as going
-use Rattle.debug_session.proofs.{Scans.{first-at, last-at}, Stretches.{HasBegin, ahead-behind, behind-first, has-begin}}
-use Rattle.session_laws.specs.{FirstStop.HasStopped, StepBack.{HasStepped, IsTakenBack, MayStandAt}}
-use Rattle.session_laws.proofs.FirstStops.{stops-first}
+use Rattle.session_laws.{specs.{FirstStop.HasStopped, StepBack.{HasStepped, IsTakenBack, MayStandAt}}, proofs.FirstStops.stops-first}
 
 -- a cause to stop is at a boundary
 pub at-boundary : (here : Bool) (cause : Option Stop) (stop : Stop)

@@ -1,20 +1,17 @@
 -- What a debugger reads of a run is the same without the key.
-use Rattle.std.proofs.{Common.{◌≡◌, ℕ, zero, suc, ◌%◌, ◌<◌, ◌≤◌, Bool, true, false, List, [], ◌∷◌, ◌++◌, Some, None, inl, inr, refl, ap, sym, ◌∙◌, subst, min, arith, eq-or-lt_of_le, Result, Ok, Err, IfOk, ⊎_elim, Option, is_some}, Math.Nat.min-le_left, lemmas.{List.append_cancel_left, Bool.cases_Bool}}
-use Rattle.std.specs.Prelude.{◌||◌, nat_lt, if◌then◌else◌}
+use Rattle.std.{proofs.{Common.{◌≡◌, ℕ, zero, suc, ◌%◌, ◌<◌, ◌≤◌, Bool, true, false, List, [], ◌∷◌, ◌++◌, Some, None, inl, inr, refl, ap, sym, ◌∙◌, subst, min, arith, eq-or-lt_of_le, Result, Ok, Err, IfOk, ⊎_elim, Option, is_some}, Math.Nat.min-le_left, lemmas.{List.append_cancel_left, Bool.cases_Bool}}, specs.Prelude.{◌||◌, nat_lt, if◌then◌else◌}}
 use Rattle.word_arith.specs.declared.size.Size.{Size, TheVariants.Byte}
 use Rattle.device_types.specs.{declared.{access.Access.{Access, TheVariants.{Read, Fetch, Write}}, bus_record.BusRecord.BusRecord, event.Event.Event, rule.Rule.Rule}, Access.{without_number, places_of}, Map.{AUX_WORD, EXEC_WORD, key_region, lies_in, stack_region}}
 use Rattle.part_definitions.specs.Memory.{ShownFlags}
 use Rattle.printed_lines.specs.Line.{end_line}
 use Rattle.device_trace.specs.{Blank.{blank, blank_record, touches_secrets}, Logs.{Logs, aux_of, exec_of}, Trace.{Play, logs_after, released_words, trace, play_of}, Progress.{Progress, Held, Runs, InCall, last_registers, next_pc_of, stands_at_boundary}, Signals.number_read, Start.Start, Step.next_record, Text.{lines_of, lines_of_step}}
 use Rattle.key_isolation.proofs.{FlagBlank.exec-blank, Hiding.{flags_of-hide, hide, hide_progress, last_registers-hide, next_pc_of-hide, open_start}, Induction.{play_hides, releases_before}, Reading.value_read-hide, TextBlank.lines_of-hide}
-use Rattle.trace_files.specs.{LineText.trace_line, TraceText.{next_line, trace_lines}}
-use Rattle.trace_files.proofs.{Right.shape-told, SameText.lines_keyless}
+use Rattle.trace_files.{specs.{LineText.trace_line, TraceText.{next_line, trace_lines}}, proofs.{Right.shape-told, SameText.lines_keyless}}
 use Rattle.debug_session.specs.{Request.most_steps, Watched.{flag_access, hits_by, hits_of, seen_accesses, data_access, first_watched, hit_by, hit_where, hits_by_access, is_of_kind, some_hit}, declared.watch.{Hit.Hit, Watch.Watch, WatchKind.WatchKind}, Place.{Run, aux_at, differs, exec_at, is_shown, logs_at, next_sight, no_step, play_to, shown_at, sight_at, step_at, step_sight, view_of}, Sight.StepSight, Shown.{byte_and, bytes_shown}}
 use Rattle.session_laws.proofs.SameSights.{IsSameTo, still}
 use Rattle.play_script.specs.Grammar.{ScriptSoFar, with_entry}
 use Rattle.text_scan.specs.{Reader.◌>>=◌, declared.fault_kind.FaultKind.FaultKind}
-use Rattle.device_live.specs.{Answer.{Answer, silent_answer}, Life.{Life, events_in, play_lived, with_happening, with_script}}
-use Rattle.device_live.proofs.Lives.{entry-lived}
+use Rattle.device_live.{specs.{Answer.{Answer, silent_answer}, Life.{Life, events_in, play_lived, with_happening, with_script}}, proofs.Lives.entry-lived}
 use Rattle.debug_session.specs.declared.watch.WatchKind.TheVariants as watch
 
 -- Watches look at no number that a write carries.

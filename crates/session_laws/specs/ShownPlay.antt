@@ -1,6 +1,5 @@
 -- What is shown at a place is of the play of so many steps.
-use Rattle.std.specs.Prelude.{◌≡◌, ◌<◌, ◌≤◌, ◌++◌, ◌+◌, ◌%◌, ℕ, true, false, List, [], ◌∷◌, Option, EachIndex, codes, drop, length, min, slice_index}
-use Rattle.std.specs.Fmt.{decimal}
+use Rattle.std.specs.{Prelude.{◌≡◌, ◌<◌, ◌≤◌, ◌++◌, ◌+◌, ◌%◌, ℕ, true, false, List, [], ◌∷◌, Option, EachIndex, codes, drop, length, min, slice_index}, Fmt.decimal}
 use Rattle.hex.specs.Hex.{encode_lower}
 use Rattle.word_arith.specs.declared.size.Size.TheVariants.{Byte}
 use Rattle.printed_lines.specs.Line.{flag_digit}

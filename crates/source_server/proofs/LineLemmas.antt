@@ -1,6 +1,5 @@
 -- Lines of a piece that were answered, one more, and where it stopped.
-use Rattle.std.proofs.{Common.{◌≡◌, ◌≢◌, ◌<◌, ◌∙◌, ◌++◌, ◌+◌, ℕ, zero, suc, List, [], ◌∷◌, Option, Some, None, Ok, Err, length, take, drop, refl, ap, sym, subst, arith, append_assoc, ⊎_elim, ◌≤◌, ◌-◌, true, length-append}, lemmas.{Bool.{cases_Bool, ne_eqb, Decides.nat_tests}, List.{append-nil, get_or-take, length-take, length-take-le}}}
-use Rattle.std.specs.{Prelude.{OnOk, IfErr, Result, nat_eq, slice_index, nat_lt}, Str.Lines.strip_carriage_return}
+use Rattle.std.{proofs.{Common.{◌≡◌, ◌≢◌, ◌<◌, ◌∙◌, ◌++◌, ◌+◌, ℕ, zero, suc, List, [], ◌∷◌, Option, Some, None, Ok, Err, length, take, drop, refl, ap, sym, subst, arith, append_assoc, ⊎_elim, ◌≤◌, ◌-◌, true, length-append}, lemmas.{Bool.{cases_Bool, ne_eqb, Decides.nat_tests}, List.{append-nil, get_or-take, length-take, length-take-le}}}, specs.{Prelude.{OnOk, IfErr, Result, nat_eq, slice_index, nat_lt}, Str.Lines.strip_carriage_return}}
 use Rattle.source_server.specs.{declared.halt.Halt.Halt, HeldLine.{HoldsRest, ended_line, last_line, short_line, with_piece, LONGEST_LINE, MOST_HELD, IsCutAnywhere, IsHeld, IsPlain}, LineCut.{LineCut, all_lines, cut_of, no_lines, whole_lines, with_byte, with_bytes, with_last}, Lines.{LinePromise, Settles, Tells, HoldsCut, StopsAmong, TellsPiece}}
 
 -- Pieces of lines.

@@ -1,8 +1,6 @@
 -- What the end of a serving tells of its source and of where its responder stopped.
-use Rattle.std.proofs.Common.{◌≡◌, ◌≤◌, ◌<◌, ◌⊎◌, ◌+◌, ◌++◌, ℕ, List, [], Option, Some, None, drop, length, take, refl, arith, length-append, inl, inr}
-use Rattle.std.specs.Prelude.{option_map}
-use Rattle.outside_edge.specs.Calls.{Rose}
-use Rattle.outside_edge.specs.declared.source.Source as source
+use Rattle.std.{proofs.Common.{◌≡◌, ◌≤◌, ◌<◌, ◌⊎◌, ◌+◌, ◌++◌, ℕ, List, [], Option, Some, None, drop, length, take, refl, arith, length-append, inl, inr}, specs.Prelude.option_map}
+use Rattle.outside_edge.specs.{Calls.Rose, declared.source.Source.Ghosts as SourceGhosts}
 use Rattle.source_server.specs.{declared.{halt.Halt.Halt, served.Served.{Served, TheVariants.{Done, Spent, ReadFault, WriteFault, Own}}}, Responder.Promise, Serving.{EndsSo, Serves, StopsSo, served_of}, Taken.{KeepsLimit, joined_pieces, most_input}}
 use Rattle.source_server.specs.declared.halt.Halt.TheVariants as halt
 
@@ -15,7 +13,7 @@ few_taken bytes (Some rest) taken is =
     let same : bytes ≡ taken ++ rest = cc is in
     rw (same, length-append) (omega arith)
 
-module _ {R X O : Type 0} (r : source.Ghosts R) (promise : Promise X O) (old new : R)
+module _ {R X O : Type 0} (r : SourceGhosts R) (promise : Promise X O) (old new : R)
     (now : X) where
   -- where it stopped
   abbrev pub StopsSomewhere : Halt O → Type 0

@@ -1,11 +1,6 @@
 -- What is served of a source, piece after piece.
-use Rattle.std.proofs.Common.{◌≡◌, ◌≤◌, ◌<◌, ◌+◌, ◌-◌, ◌∙◌, ◌++◌, ℕ, List, [], ◌∷◌, Option, Some, None, Ok, Err, length, drop, map, take, refl, ap, sym, subst, arith, append_assoc, length-append, inl, inr}
-use Rattle.std.specs.Prelude.{IfSome, Result, option_map}
-use Rattle.std.proofs.lemmas.List.{append-nil, length-take-le}
-use Rattle.std.proofs.lemmas.List.Elements.{All-cons, All-nil}
-use Rattle.outside_edge.specs.{Calls.Rose, Source.IsAsked}
-use Rattle.outside_edge.specs.declared.source.Source as source
-use Rattle.outside_edge.proofs.Counts.{rose_since}
+use Rattle.std.{proofs.{Common.{◌≡◌, ◌≤◌, ◌<◌, ◌+◌, ◌-◌, ◌∙◌, ◌++◌, ℕ, List, [], ◌∷◌, Option, Some, None, Ok, Err, length, drop, map, take, refl, ap, sym, subst, arith, append_assoc, length-append, inl, inr}, lemmas.List.{append-nil, length-take-le, Elements.{All-cons, All-nil}}}, specs.Prelude.{IfSome, Result, option_map}}
+use Rattle.outside_edge.{specs.{Calls.Rose, Source.IsAsked, declared.source.Source.Ghosts as SourceGhosts}, proofs.Counts.rose_since}
 use Rattle.source_server.specs.{declared.{halt.Halt.Halt, served.Served.Served}, Responder.{Answers, Ends, Moment, Promise}, Serving.{EndsSo, Serves, StopsSo, served_after, served_of}, Taken.{Gave, HasGiven, IsAtEnd, IsLeft, joined_pieces, most_input}}
 use Rattle.source_server.specs.declared.halt.Halt.TheVariants as halt
 use Rattle.source_server.specs.declared.served.Served.TheVariants as served
@@ -21,7 +16,7 @@ left_same : (left : Option (List ℕ)) → left ≡ option_map (λ (rest : List 
 left_same None = refl
 left_same (Some left) = refl
 
-module _ {R : Type 0} (r : source.Ghosts R) where
+module _ {R : Type 0} (r : SourceGhosts R) where
   pub gave_both : (first mid last : R) (one two : List ℕ)
       → Gave r first mid one → Gave r mid last two → Gave r first last (one ++ two)
   gave_both first mid last one two before next =
@@ -49,7 +44,7 @@ module _ {R : Type 0} (r : source.Ghosts R) where
   gave_still first mid last bytes before next =
       rw append-nil at (gave_both first mid last bytes [] before next)
 
-module _ {R X O : Type 0} (r : source.Ghosts R) (promise : Promise X O) (old new : R) (now : X)
+module _ {R X O : Type 0} (r : SourceGhosts R) (promise : Promise X O) (old new : R) (now : X)
     (pieces : List (List ℕ)) where
   -- where the responder stopped
   stops_so : (why : Halt O) → StopsSo r promise old new now pieces why
@@ -63,7 +58,7 @@ module _ {R X O : Type 0} (r : source.Ghosts R) (promise : Promise X O) (old new
   ends_so (Ok unit) at came = (at, came.all)
   ends_so (Err why) at came = stops_so why (inr (at, came.stops))
 
-module _ {R T E Start O : Type 0} (r : source.Ghosts R)
+module _ {R T E Start O : Type 0} (r : SourceGhosts R)
     (promise : Start → Promise (Moment T E) O) (since : Moment T E → Moment T E → Type 0) where
   -- these pieces were taken so far, and answered
   pub record IsServedTo (first : Moment T E) (source : R) (now : Moment T E) (source_now : R)
@@ -238,7 +233,7 @@ module _ {R T E Start O : Type 0} (r : source.Ghosts R)
       }
 
 -- what is promised of one moment holds of another, where that promises it too
-module _ {R X Y O : Type 0} (r : source.Ghosts R) (promise : Promise X O) (other : Promise Y O)
+module _ {R X Y O : Type 0} (r : SourceGhosts R) (promise : Promise X O) (other : Promise Y O)
     (old new : R) (x : X) (y : Y)
     (answered : (bytes : List ℕ) → promise.answered x bytes → other.answered y bytes)
     (ended : (bytes : List ℕ) → promise.ended x bytes → other.ended y bytes)
@@ -264,7 +259,7 @@ module _ {R X Y O : Type 0} (r : source.Ghosts R) (promise : Promise X O) (other
       record { pieces = so.pieces; given = so.given; ends = ends_as so.pieces served so.ends }
 
 -- a responder that stopped before the first byte
-pub none_served : {R X O : Type 0} (r : source.Ghosts R) (promise : Promise X O) (source : R)
+pub none_served : {R X O : Type 0} (r : SourceGhosts R) (promise : Promise X O) (source : R)
     (now : X) (why : Halt O)
     → promise.stopped now [] [] why → Serves r promise source source now (served_of why)
 none_served r promise source now why so =

@@ -1,6 +1,5 @@
 -- What is held of a line while it comes: its bytes, or that it is too long.
-use Rattle.std.specs.Prelude.{slice_index, ◌≢◌, ◌≡◌, ◌<◌, ◌++◌, ◌+◌, ℕ, List, length, nat_lt, if◌then◌else◌, Option, Some, None}
-use Rattle.std.specs.Str.Lines.{strip_carriage_return}
+use Rattle.std.specs.{Prelude.{slice_index, ◌≢◌, ◌≡◌, ◌<◌, ◌++◌, ◌+◌, ℕ, List, length, nat_lt, if◌then◌else◌, Option, Some, None}, Str.Lines.strip_carriage_return}
 use Rattle.source_server.specs.LineCut.{LineCut, with_bytes}
 
 -- the longest line that is read, without its end

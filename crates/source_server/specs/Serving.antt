@@ -1,7 +1,7 @@
 -- How a source is served: what is taken of it, what was answered, and why it ended.
 use Rattle.std.specs.Prelude.{◌≡◌, ◌⊎◌, ℕ, List, [], drop, length, take, Result, Ok, Err}
 use Rattle.source_server.specs.{declared.{halt.Halt.Halt, served.Served.{Served, TheVariants.{Done, Spent, ReadFault, WriteFault, Own}}}, Responder.Promise, Taken.{HasGiven, IsAtEnd, IsAtFault, IsLeft, joined_pieces, most_input}}
-use Rattle.outside_edge.specs.declared.source.Source as source
+use Rattle.outside_edge.specs.declared.source.Source.{Ghosts as SourceGhosts}
 use Rattle.source_server.specs.declared.halt.Halt.TheVariants as halt
 
 -- where a responder stopped, and at the end of its source
@@ -14,7 +14,7 @@ served_after (Ok unit) = Done
 served_after (Err why) = served_of why
 
 -- it stopped within the newest piece, and no more was read, or at the end of the source
-abbrev pub StopsSo : {R X O : Type 0} → source.Ghosts R → Promise X O → R → R → X
+abbrev pub StopsSo : {R X O : Type 0} → SourceGhosts R → Promise X O → R → R → X
     → List (List ℕ) → Halt O → Type 0
 StopsSo r promise old new now pieces why =
     (IsLeft r old new pieces
@@ -22,7 +22,7 @@ StopsSo r promise old new now pieces why =
     ⊎ (IsAtEnd r old new pieces × promise.stopped now (joined_pieces pieces) [] why)
 
 -- what was answered of these pieces, and why no more was taken
-abbrev pub EndsSo : {R X O : Type 0} → source.Ghosts R → Promise X O → R → R → X
+abbrev pub EndsSo : {R X O : Type 0} → SourceGhosts R → Promise X O → R → R → X
     → List (List ℕ) → Served O → Type 0
 EndsSo r promise old new now pieces Done =
     IsAtEnd r old new pieces × promise.ended now (joined_pieces pieces)
@@ -36,7 +36,7 @@ EndsSo r promise old new now pieces (Own own) =
     StopsSo r promise old new now pieces (halt.Own own)
 
 -- a source was served: the pieces that it gave, the newest first, and how that ended
-pub record Serves {R X O : Type 0} (r : source.Ghosts R) (promise : Promise X O) (old new : R)
+pub record Serves {R X O : Type 0} (r : SourceGhosts R) (promise : Promise X O) (old new : R)
     (now : X) (served : Served O) : Type 0 where
   pub pieces : List (List ℕ)
   pub given : HasGiven r old new pieces

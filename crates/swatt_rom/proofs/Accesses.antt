@@ -1,13 +1,10 @@
 -- What the phases of a call ask for.
-use Rattle.std.proofs.{Common.{◌≡◌, ◌<◌, ◌∙◌, ℕ, List, Some, true, false, length, inl, inr, refl, ap, sym, subst, arith, ◌++◌, ◌∷◌, [], if◌then◌else◌}, lemmas.Bool.{cases_Bool, lt-ltb, Decides.nat_tests}}
+use Rattle.std.{proofs.{Common.{◌≡◌, ◌<◌, ◌∙◌, ℕ, List, Some, true, false, length, inl, inr, refl, ap, sym, subst, arith, ◌++◌, ◌∷◌, [], if◌then◌else◌}, lemmas.Bool.{cases_Bool, lt-ltb, Decides.nat_tests}}, specs.Prelude.{◌==◌, ◌+◌, ◌*◌, nat_lt, slice_index}}
 use Rattle.word_arith.specs.declared.size.Size.TheVariants.{Word}
-use Rattle.std.specs.Prelude.{◌==◌, ◌+◌, ◌*◌, nat_lt, slice_index}
 use Rattle.device_types.specs.{declared.{access.Access.Access, bounds.Bounds.Bounds}, Map.{mac_region, DERIVED_KEY, INNER_DIGEST, KEPT_COUNTER}}
-use Rattle.part_definitions.specs.{BusAccess.{read_at, write_at}, Attestation.{CallItem, KeptWrite, DecisionWrite, DerivedKeyWrite, RegionRead, InnerDigestWrite, MacWrite, call_item, item_access, item_pc, bounds_read, decision_read, region_words, region_place, written_word, word_of_bytes, is_return, word_passed}, Request.ATTESTS}
-use Rattle.part_definitions.proofs.CallItems.{item_until_decision, item_after, item_after-is}
-use Rattle.swatt_rom.specs.{RomCall.{call_access, next_word, RomCall, NoCall, InCall, AfterCall, end_of_call, after_step, after_value}, Phase.{read_place, IsWrite, PhaseStandsFor, HasDecided, IsBeforeReturn}, declared.{decided.Decided.Decided, region_words.RegionWords.RegionWords, request_words.RequestWords.RequestWords, phase.Phase.{Phase, TheVariants.{ReadsRequest, WritesHighWord, WritesLowWord, WritesDecision, WritesDerivedKey, ReadsRegion, WritesInnerDigest, WritesMac}}, state.State.TheVariants.{Calls, Returns}}, Rom.StateStandsFor}
+use Rattle.part_definitions.{specs.{BusAccess.{read_at, write_at}, Attestation.{CallItem, KeptWrite, DecisionWrite, DerivedKeyWrite, RegionRead, InnerDigestWrite, MacWrite, call_item, item_access, item_pc, bounds_read, decision_read, region_words, region_place, written_word, word_of_bytes, is_return, word_passed}, Request.ATTESTS}, proofs.CallItems.{item_until_decision, item_after, item_after-is}}
+use Rattle.swatt_rom.{specs.{RomCall.{call_access, next_word, RomCall, NoCall, InCall, AfterCall, end_of_call, after_step, after_value}, Phase.{read_place, IsWrite, PhaseStandsFor, HasDecided, IsBeforeReturn}, declared.{decided.Decided.Decided, region_words.RegionWords.RegionWords, request_words.RequestWords.RequestWords, phase.Phase.{Phase, TheVariants.{ReadsRequest, WritesHighWord, WritesLowWord, WritesDecision, WritesDerivedKey, ReadsRegion, WritesInnerDigest, WritesMac}}, state.State.TheVariants.{Calls, Returns}}, Rom.StateStandsFor}, proofs.WordsPassed.region_in}
 use Rattle.hmac_core.specs.{Hash.Hash, declared.running_hmac.Hmac.Hmac}
-use Rattle.swatt_rom.proofs.WordsPassed.{region_in}
 
 -- The accesses of a call, by the number of words that passed.
 

@@ -1,7 +1,5 @@
 -- What a call decides, and the counter of its request.
-use Rattle.std.proofs.Common.{◌≡◌, ◌+◌, ◌*◌, ◌∷◌, [], ℕ, false, not, List, length, ap, sym, arith}
-use Rattle.std.specs.Prelude.{nat_le, if◌then◌else◌, slice_index}
-use Rattle.std.specs.Str.{bytes_eq}
+use Rattle.std.{proofs.Common.{◌≡◌, ◌+◌, ◌*◌, ◌∷◌, [], ℕ, false, not, List, length, ap, sym, arith}, specs.{Prelude.{nat_le, if◌then◌else◌, slice_index}, Str.bytes_eq}}
 use Rattle.part_definitions.specs.{Metadata.{counter_in, token_in, little_endian}, Request.{request_decision, right_token}}
 
 pub token_differs : (digest : List ℕ → List ℕ) (key metadata kept : List ℕ)

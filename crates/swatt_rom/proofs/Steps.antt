@@ -1,14 +1,9 @@
 -- The phases of a call, as a word passes.
-use Rattle.std.proofs.Common.{◌≡◌, ◌<◌, ◌+◌, ◌++◌, ◌∷◌, ◌∙◌, [], ℕ, false, List, length, length-append, append_assoc, append-nil, ap, refl, subst, sym, arith, lit≤}
-use Rattle.std.specs.Prelude.{◌==◌, slice_index, Option, None, Some, IsNone, IsSome}
-use Rattle.std.specs.Option.{option_and}
-use Rattle.std.proofs.Math.Seq.{get_or-append_seam}
-use Rattle.std.proofs.lemmas.Bool.{cond-false}
+use Rattle.std.{proofs.{Common.{◌≡◌, ◌<◌, ◌+◌, ◌++◌, ◌∷◌, ◌∙◌, [], ℕ, false, List, length, length-append, append_assoc, append-nil, ap, refl, subst, sym, arith, lit≤}, Math.Seq.get_or-append_seam, lemmas.Bool.cond-false}, specs.{Prelude.{◌==◌, slice_index, Option, None, Some, IsNone, IsSome}, Option.option_and}}
 use Rattle.device_types.specs.declared.bounds.Bounds.{Bounds}
 use Rattle.hmac_core.specs.{Hash.Hash, Hmac.HmacStandsFor, declared.running_hmac.Hmac.Hmac}
 use Rattle.part_definitions.specs.{Attestation.{bounds_read, region_words, decision_read, decision_in, counter_word, bytes_of_words, metadata_read, region_read, call_key, inner_in, tag_in}, Request.ATTESTS}
-use Rattle.swatt_rom.specs.{Phase.{WritesDigest, PhaseStandsFor, NextStandsFor, HashesRegion, HasDecided, EndsRegion, StandsAtDerivedKey, StandsAtRegion, StandsAtInnerDigest, StandsAtMac, IsBeforeReturn, before_inner_digest, before_mac, before_return}, declared.{decided.Decided.Decided, phase.Phase.Phase, digest_words.DigestWords.DigestWords, region_words.RegionWords.RegionWords}}
-use Rattle.swatt_rom.proofs.WordsPassed.{region_in, bounds_read-append, region_in-append, metadata_read-append, decision_read-append, decision_in-append, counter_word-append, call_key-append, region_read-before, region_read-more, inner_in-append, tag_in-append}
+use Rattle.swatt_rom.{specs.{Phase.{WritesDigest, PhaseStandsFor, NextStandsFor, HashesRegion, HasDecided, EndsRegion, StandsAtDerivedKey, StandsAtRegion, StandsAtInnerDigest, StandsAtMac, IsBeforeReturn, before_inner_digest, before_mac, before_return}, declared.{decided.Decided.Decided, phase.Phase.Phase, digest_words.DigestWords.DigestWords, region_words.RegionWords.RegionWords}}, proofs.WordsPassed.{region_in, bounds_read-append, region_in-append, metadata_read-append, decision_read-append, decision_in-append, counter_word-append, call_key-append, region_read-before, region_read-more, inner_in-append, tag_in-append}}
 
 -- a word of a digest is written
 WritesDigest-more :

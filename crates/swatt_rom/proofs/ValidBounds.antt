@@ -1,7 +1,6 @@
 -- Bounds that are valid are even and in order.
 use Rattle.std.proofs.Common.{◌≡◌, ◌≤◌, ◌%◌, true}
-use Rattle.device_types.specs.{declared.bounds.Bounds.Bounds, Bounds.are_valid, Map.metadata_region}
-use Rattle.device_types.proofs.ValidRange.{are_valid-ranges}
+use Rattle.device_types.{specs.{declared.bounds.Bounds.Bounds, Bounds.are_valid, Map.metadata_region}, proofs.ValidRange.are_valid-ranges}
 
 pub executable_ordered :
     (bounds : Bounds) → are_valid bounds ≡ true → bounds.er_min ≤ bounds.er_max

@@ -1,9 +1,7 @@
 -- What the words that passed in a call mean, as more of them pass.
-use Rattle.std.proofs.{Common.{◌≡◌, ◌<◌, ◌≤◌, ◌+◌, ◌++◌, ◌∷◌, ◌∙◌, [], ℕ, List, length, length-append, take, drop, ap, sym, arith, ◌/◌, ◌%◌, ◌^◌, append_assoc, get_or, refl, false, Some, inl, inr, subst}, Math.ListN.get_or-append, lemmas.{List.{take-append-le, drop-append-le, take_all, drop_all, length-drop, take_more}, Bool.{cases_Bool, eqb-true, cond-true, cond-false, Decides.nat_tests}}}
-use Rattle.part_definitions.specs.{Attestation.{bounds_read, region_words, bytes_of_words, key_read, metadata_read, region_read, kept_read, decision_read, decision_in, counter_word, metadata_word, derived_key, call_key, inner_in, tag_in, ReturnRead, item_access, item_pc, is_return, call_item, written_word}, Request.ATTESTS, BusAccess.read_at}
-use Rattle.std.specs.Prelude.{◌==◌, slice_index, if◌then◌else◌}
+use Rattle.std.{proofs.{Common.{◌≡◌, ◌<◌, ◌≤◌, ◌+◌, ◌++◌, ◌∷◌, ◌∙◌, [], ℕ, List, length, length-append, take, drop, ap, sym, arith, ◌/◌, ◌%◌, ◌^◌, append_assoc, get_or, refl, false, Some, inl, inr, subst}, Math.ListN.get_or-append, lemmas.{List.{take-append-le, drop-append-le, take_all, drop_all, length-drop, take_more}, Bool.{cases_Bool, eqb-true, cond-true, cond-false, Decides.nat_tests}}}, specs.Prelude.{◌==◌, slice_index, if◌then◌else◌}}
+use Rattle.part_definitions.{specs.{Attestation.{bounds_read, region_words, bytes_of_words, key_read, metadata_read, region_read, kept_read, decision_read, decision_in, counter_word, metadata_word, derived_key, call_key, inner_in, tag_in, ReturnRead, item_access, item_pc, is_return, call_item, written_word}, Request.ATTESTS, BusAccess.read_at}, proofs.CallItems.{item_after, item_after-is}}
 use Rattle.word_arith.specs.declared.size.Size.TheVariants.{Word}
-use Rattle.part_definitions.proofs.CallItems.{item_after, item_after-is}
 use Rattle.hmac_core.specs.Hash.{Hash}
 use Rattle.swatt_rom.specs.{RomCall.{RomCall, NoCall, InCall, AfterCall, end_of_call, next_word, after_value, rom_access, rom_pc}, Phase.IsBeforeReturn, Rom.StateStandsFor, declared.{call_end.CallEnd.CallEnd, state.State.TheVariants.{Returns, Leaves}}}
 

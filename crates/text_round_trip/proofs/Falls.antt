@@ -1,13 +1,8 @@
 -- How a text falls into tokens, piece by piece.
-use Rattle.std.proofs.Common.{◌≡◌, ◌∙◌, ap, sym, refl, ℕ, ◌+◌, ◌<◌, arith, Bool, true, false, cond, not, List, [], ◌∷◌, ◌++◌, append_assoc, length, take, drop, length-append, Result, Ok, Err}
-use Rattle.std.specs.Prelude.{◌==◌, codes}
-use Rattle.std.specs.List.{list_all, position_or_len, before_first}
-use Rattle.std.proofs.Math.Seq.{drop-append_seam, take-append_seam}
-use Rattle.std.proofs.lemmas.Bool.{ne_eqb, false≢true, and_parts}
+use Rattle.std.{proofs.{Common.{◌≡◌, ◌∙◌, ap, sym, refl, ℕ, ◌+◌, ◌<◌, arith, Bool, true, false, cond, not, List, [], ◌∷◌, ◌++◌, append_assoc, length, take, drop, length-append, Result, Ok, Err}, Math.Seq.{drop-append_seam, take-append_seam}, lemmas.Bool.{ne_eqb, false≢true, and_parts}}, specs.{Prelude.{◌==◌, codes}, List.{list_all, position_or_len, before_first}}}
 use Rattle.text_scan.specs.declared.fault_kind.FaultKind.{FaultKind}
 use Rattle.asm_text.specs.declared.piece.Piece.TheVariants as pieces
-use Rattle.asm_text.specs.{declared.token.Token.{Token, TheVariants.{Here, Colon, Comma, Hash, Ampersand, At, Plus, Minus, Open, Close}}, Word.{is_word_character, ends_word}, Token.{word_piece, piece_of, token_before, tokens_of}}
-use Rattle.asm_text.proofs.{Behind.{behind, behind-none}, TokenSteps.{left-blank, left-token}}
+use Rattle.asm_text.{specs.{declared.token.Token.{Token, TheVariants.{Here, Colon, Comma, Hash, Ampersand, At, Plus, Minus, Open, Close}}, Word.{is_word_character, ends_word}, Token.{word_piece, piece_of, token_before, tokens_of}}, proofs.{Behind.{behind, behind-none}, TokenSteps.{left-blank, left-token}}}
 
 -- no word goes on there
 abbrev pub ends : List ℕ → Bool

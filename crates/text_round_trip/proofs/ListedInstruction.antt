@@ -1,7 +1,5 @@
 -- The instructions of a listing with operands, read again.
-use Rattle.std.proofs.Common.{◌≡◌, ◌∙◌, ap, refl, ℕ, ◌+◌, ◌*◌, true, not, inl, inr, List, [], ◌∷◌, ◌++◌, append_assoc, ℤ, pos, Option, Some, None, Result, Ok, Err}
-use Rattle.std.specs.Prelude.{◌||◌, codes, flat_map}
-use Rattle.std.proofs.lemmas.Bool.{or_cases, false≢true}
+use Rattle.std.{proofs.{Common.{◌≡◌, ◌∙◌, ap, refl, ℕ, ◌+◌, ◌*◌, true, not, inl, inr, List, [], ◌∷◌, ◌++◌, append_assoc, ℤ, pos, Option, Some, None, Result, Ok, Err}, lemmas.Bool.{or_cases, false≢true}}, specs.Prelude.{◌||◌, codes, flat_map}}
 use Rattle.word_arith.specs.{declared.{op2.Op2.Op2, size.Size.Size}}
 use Rattle.word_arith.specs.declared.size.Size.TheVariants as sizes
 use Rattle.msp_decode.specs.{declared.{one.One.One as OneOp, constant.Gen.Gen, source.Source.Source, dest.Dest.Dest, instr.Instr.{Instr, TheVariants.{Two, One}}}, Completion.{source_form, words_of}, Spelling.{has_form, has_size, takes_result, writes_operand}}
@@ -17,8 +15,7 @@ use Rattle.asm_text.specs.declared.form.SourceRole.TheVariants as sources
 use Rattle.asm_text.specs.declared.form.DestRole.TheVariants as dests
 use Rattle.msp_asm.specs.{Instruction.{Operands, instruction_of, one_of, source_words}, Operand.{expr_in, source_of, dest_of, constant_of, immediate, immediate_word}, Statement.word_bytes, Value.{Scope, value}, ItemText.{size_suffix, source_text, dest_text}}
 use Rattle.msp_asm.specs.declared.item.Item.TheVariants as items
-use Rattle.text_round_trip.specs.{Listing.{IsReadAs, source_again}, Writable.has_size as mnemonic_has_size}
-use Rattle.text_round_trip.proofs.{Falls.{falls-then, falls-apart, comma-falls}, ListedOperand.{FitsSource, FitsDest, source_operand, dest_tokens, dest_operand, source-falls, dest-falls, source-read, dest-read, source-form, source-modified, dest-form, source-again, dest-again}, Operands.{no_colon-first, one-read, two-read}, Words.{mnemonic-operation, statement-read}}
+use Rattle.text_round_trip.{specs.{Listing.{IsReadAs, source_again}, Writable.has_size as mnemonic_has_size}, proofs.{Falls.{falls-then, falls-apart, comma-falls}, ListedOperand.{FitsSource, FitsDest, source_operand, dest_tokens, dest_operand, source-falls, dest-falls, source-read, dest-read, source-form, source-modified, dest-form, source-again, dest-again}, Operands.{no_colon-first, one-read, two-read}, Words.{mnemonic-operation, statement-read}}}
 
 -- the sizes that there are
 two-sized : (op : Op2) (size : Size) → mnemonic_has_size (mnemonics.Two op) size ≡ true

@@ -1,8 +1,5 @@
 -- The words and bytes of a listing, and its returns from interrupts, read again.
-use Rattle.std.proofs.Common.{◌∙◌, ap, refl, ℕ, ◌<◌, arith, [], ◌∷◌, ◌++◌, ℤ, pos, None, Result}
-use Rattle.std.specs.Prelude.{codes}
-use Rattle.std.proofs.lemmas.Bool.{le-leb}
-use Rattle.std.proofs.Math.IntN.{+ℤ_idr}
+use Rattle.std.{proofs.{Common.{◌∙◌, ap, refl, ℕ, ◌<◌, arith, [], ◌∷◌, ◌++◌, ℤ, pos, None, Result}, lemmas.Bool.le-leb, Math.IntN.+ℤ_idr}, specs.Prelude.codes}
 use Rattle.word_arith.specs.declared.size.Size.TheVariants as sizes
 use Rattle.msp_decode.specs.declared.instr.Instr.TheVariants.{Reti}
 use Rattle.printed_lines.specs.Line.{byte_digits}
@@ -11,8 +8,7 @@ use Rattle.asm_text.specs.{declared.{body.Body.Body, mnemonic.Mnemonic.TheVarian
 use Rattle.asm_text.specs.declared.body.Body.TheVariants as bodies
 use Rattle.msp_asm.specs.Statement.{all_bytes}
 use Rattle.msp_asm.specs.declared.item.Item.TheVariants as items
-use Rattle.text_round_trip.specs.Listing.{IsReadAs}
-use Rattle.text_round_trip.proofs.{ListedOperand.{number_expr, word-falls}, Numerals.{number-falls, byte_text-number}, Operands.one-read, Words.{mnemonic-operation, without_label, operation-falls, no_label, operation-read, line-read, statement-read}, ListedJump.number-operand}
+use Rattle.text_round_trip.{specs.Listing.IsReadAs, proofs.{ListedOperand.{number_expr, word-falls}, Numerals.{number-falls, byte_text-number}, Operands.one-read, Words.{mnemonic-operation, without_label, operation-falls, no_label, operation-read, line-read, statement-read}, ListedJump.number-operand}}
 
 pub reti-again : (place : ℕ) → IsReadAs place (items.Instruction Reti)
 reti-again place =

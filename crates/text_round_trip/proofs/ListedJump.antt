@@ -1,8 +1,5 @@
 -- The jumps of a listing, read again.
-use Rattle.std.proofs.Common.{◌≡◌, ◌∙◌, ap, refl, ℕ, suc, ◌+◌, ◌-◌, ◌*◌, ◌/◌, ◌%◌, ◌<◌, ◌≤◌, arith, Bool, true, false, List, [], ◌∷◌, append-nil, subst, ℤ, pos, negsuc, Some, None, Ok, Err}
-use Rattle.std.specs.Prelude.{if◌then◌else◌, neg_ℤ}
-use Rattle.std.proofs.lemmas.Bool.{le-leb, lt-leb, le-ltb, leb-true, leb-false, lt-ltb, ltb-true, ltb-false, eq-eqb}
-use Rattle.std.proofs.Math.IntN.{+ℤ_idr}
+use Rattle.std.{proofs.{Common.{◌≡◌, ◌∙◌, ap, refl, ℕ, suc, ◌+◌, ◌-◌, ◌*◌, ◌/◌, ◌%◌, ◌<◌, ◌≤◌, arith, Bool, true, false, List, [], ◌∷◌, append-nil, subst, ℤ, pos, negsuc, Some, None, Ok, Err}, lemmas.Bool.{le-leb, lt-leb, le-ltb, leb-true, leb-false, lt-ltb, ltb-true, ltb-false, eq-eqb}, Math.IntN.+ℤ_idr}, specs.Prelude.{if◌then◌else◌, neg_ℤ}}
 use Rattle.word_arith.specs.declared.size.Size.TheVariants as sizes
 use Rattle.msp_decode.specs.{declared.{cond.Cond.Cond, instr.Instr.TheVariants.Jump}, Spelling.has_range}
 use Rattle.part_definitions.specs.{CpuRegister.plus, Instruction.jump_target}
@@ -14,8 +11,7 @@ use Rattle.asm_text.specs.declared.operation.Operation.TheVariants as operations
 use Rattle.asm_text.specs.declared.form.Form.TheVariants as shapes
 use Rattle.msp_asm.specs.{Instruction.{instruction_of, half_way, jump_of}, Value.{Scope, address_of}}
 use Rattle.msp_asm.specs.declared.item.Item.TheVariants as items
-use Rattle.text_round_trip.specs.Listing.{IsReadAs, stays_within}
-use Rattle.text_round_trip.proofs.{ListedOperand.{number_expr, word-falls}, Operands.{IsOperandOf, one-read}, Words.{IsOperation, mnemonic-operation, statement-read}, ListedInstruction.bytes_read}
+use Rattle.text_round_trip.{specs.Listing.{IsReadAs, stays_within}, proofs.{ListedOperand.{number_expr, word-falls}, Operands.{IsOperandOf, one-read}, Words.{IsOperation, mnemonic-operation, statement-read}, ListedInstruction.bytes_read}}
 
 -- a lone number
 

@@ -1,8 +1,5 @@
 -- The operands of a listing, read again.
-use Rattle.std.proofs.Common.{◌≡◌, ap, refl, ℕ, ◌<◌, arith, Bool, true, false, List, [], ◌∷◌, ℤ, pos, negsuc, Some, Ok}
-use Rattle.std.specs.Prelude.{codes}
-use Rattle.std.proofs.lemmas.Bool.{le-leb, false≢true}
-use Rattle.std.proofs.Math.IntN.{+ℤ_idr}
+use Rattle.std.{proofs.{Common.{◌≡◌, ap, refl, ℕ, ◌<◌, arith, Bool, true, false, List, [], ◌∷◌, ℤ, pos, negsuc, Some, Ok}, lemmas.Bool.{le-leb, false≢true}, Math.IntN.+ℤ_idr}, specs.Prelude.codes}
 use Rattle.hex.specs.Hex.{encode_with}
 use Rattle.word_arith.specs.declared.size.Size.{Size}
 use Rattle.msp_decode.specs.{declared.{reg.Reg.{Reg, TheVariants.{R2, R3}}, constant.Gen.Gen, source.Source.Source, dest.Dest.Dest}, Completion.source_form, Spelling.{has_form, takes_result}}
@@ -12,8 +9,7 @@ use Rattle.msp_decode.specs.declared.dest.Dest.TheVariants as dest
 use Rattle.asm_text.specs.{declared.{operand.Operand.{Operand, TheVariants.{Reg as RegOperand, Imm, Abs, Indexed, Indirect, IndirectInc}}, token.Token.{Token, TheVariants.{Number, Register, Hash, Ampersand, At, Plus, Minus, Open, Close}}}, Expr.SignedTerm, Operand.terms_of, Statement.{is_source, is_modified, is_destination}}
 use Rattle.asm_text.specs.declared.term.Term.TheVariants as terms
 use Rattle.msp_asm.specs.{Operand.{expr_in, source_of, dest_of}, Value.{Scope, value as value_of}, ItemText.{word_text, indexed_text, constant_text, source_text, dest_text}}
-use Rattle.text_round_trip.specs.Listing.{source_again}
-use Rattle.text_round_trip.proofs.{Falls.{FallsInto, falls-then, falls-apart, falls-into, hash-falls, ampersand-falls, at-falls, plus-falls, minus-falls, open-falls, close-falls}, Numerals.{number-falls, word_text-number}, Operands.IsOperandOf, Words.register-falls}
+use Rattle.text_round_trip.{specs.Listing.source_again, proofs.{Falls.{FallsInto, falls-then, falls-apart, falls-into, hash-falls, ampersand-falls, at-falls, plus-falls, minus-falls, open-falls, close-falls}, Numerals.{number-falls, word_text-number}, Operands.IsOperandOf, Words.register-falls}}
 
 -- the expression of a number
 abbrev pub number_expr : ℕ → List SignedTerm

@@ -1,15 +1,12 @@
 -- What stands at a place of an image, read again.
-use Rattle.std.proofs.Common.{◌≡◌, ◌∙◌, ap, sym, refl, subst, ℕ, zero, suc, ◌+◌, ◌*◌, ◌%◌, ◌<◌, arith, Bool, true, false, List, [], ◌∷◌, take, Option, Some, None}
-use Rattle.std.specs.Prelude.{◌==◌, ◌&&◌, ◌||◌, not, nat_le, if◌then◌else◌, IsTrue}
-use Rattle.std.proofs.lemmas.Bool.{and_parts, eqb-true, leb-false}
+use Rattle.std.{proofs.{Common.{◌≡◌, ◌∙◌, ap, sym, refl, subst, ℕ, zero, suc, ◌+◌, ◌*◌, ◌%◌, ◌<◌, arith, Bool, true, false, List, [], ◌∷◌, take, Option, Some, None}, lemmas.Bool.{and_parts, eqb-true, leb-false}}, specs.Prelude.{◌==◌, ◌&&◌, ◌||◌, not, nat_le, if◌then◌else◌, IsTrue}}
 use Rattle.msp_decode.specs.{declared.{dest_form.DestForm.DestForm, head.Head.{Head, TheVariants.{Two, One, Reti, Jump}}, source_form.SourceForm.SourceForm}, Completion.{source_completion, dest_completion, source_extensions, extension_count, completion, source_form}, Law.HeadsAreSpelled, Head.head_of, Spelling.{has_form, has_size, takes_result, writes_operand, is_legal, word_of}}
 use Rattle.msp_decode.specs.declared.dest_form.DestForm.TheVariants as dests
 use Rattle.msp_decode.specs.declared.source_form.SourceForm.TheVariants as sources
 use Rattle.mem_map.specs.ImagePlace.{IsImage}
 use Rattle.msp_asm.specs.{declared.item.Item.Item, Item.{FIRST_VECTOR, word_of_bytes, word_in, with_words, instruction_item, even_item, byte_item, item_from, item_at}}
 use Rattle.msp_asm.specs.declared.item.Item.TheVariants as items
-use Rattle.text_round_trip.specs.Listing.{IsReadAs}
-use Rattle.text_round_trip.proofs.{ListedInstruction.{two-again, one-again}, ListedItem.{reti-again, word-again, byte-again}, ListedJump.jump-again, ListedOperand.{FitsSource, FitsDest}}
+use Rattle.text_round_trip.{specs.Listing.IsReadAs, proofs.{ListedInstruction.{two-again, one-again}, ListedItem.{reti-again, word-again, byte-again}, ListedJump.jump-again, ListedOperand.{FitsSource, FitsDest}}}
 
 source-fits : (source : SourceForm) (word : ℕ) → word < 65536
     → FitsSource (source_completion source word)

@@ -1,18 +1,5 @@
 -- Numerals are words, and which numbers they are.
-use Rattle.std.proofs.Common.{◌≡◌, ◌∙◌, ap, sym, refl, subst, ℕ, zero, suc, ◌+◌, ◌*◌, ◌/◌, ◌%◌, ◌<◌, ◌≤◌, arith, Bool, true, false, cond, List, [], ◌∷◌, ◌++◌, inl, inr, length, take, drop, Option, Some, None}
-use Rattle.std.specs.Prelude.{◌==◌, ◌&&◌, ◌||◌, codes, nat_le, nat_lt, slice_index}
-use Rattle.std.specs.Char.{is_ascii_alphanumeric, is_ascii_digit, is_ascii_hexdigit, digit_value}
-use Rattle.std.specs.Fmt.{decimal}
-use Rattle.std.specs.Int.{is_in_range}
-use Rattle.std.specs.List.{list_all}
-use Rattle.std.specs.Str.{bytes_eq}
-use Rattle.std.specs.Str.Parse.{AllDigits, IsNumeral, digits_value}
-use Rattle.std.proofs.lemmas.Bool.{and_parts, and_from, or_left, or_right, or_cases, false≢true, le-leb, leb-true, lt-ltb, cases_lt, eqb-true}
-use Rattle.std.proofs.lemmas.Fmt.{decimal_is_IsNumeral}
-use Rattle.std.proofs.lemmas.List.{take-append-drop}
-use Rattle.std.proofs.lemmas.List.Folds.{list_all-append}
-use Rattle.std.proofs.lemmas.Slice.Eq.{bytes_eq-Decides}
-use Rattle.std.proofs.lemmas.Str.Parse.{digit_from_value}
+use Rattle.std.{proofs.{Common.{◌≡◌, ◌∙◌, ap, sym, refl, subst, ℕ, zero, suc, ◌+◌, ◌*◌, ◌/◌, ◌%◌, ◌<◌, ◌≤◌, arith, Bool, true, false, cond, List, [], ◌∷◌, ◌++◌, inl, inr, length, take, drop, Option, Some, None}, lemmas.{Bool.{and_parts, and_from, or_left, or_right, or_cases, false≢true, le-leb, leb-true, lt-ltb, cases_lt, eqb-true}, Fmt.decimal_is_IsNumeral, List.{take-append-drop, Folds.list_all-append}, Slice.Eq.bytes_eq-Decides, Str.Parse.digit_from_value}}, specs.{Prelude.{◌==◌, ◌&&◌, ◌||◌, codes, nat_le, nat_lt, slice_index}, Char.{is_ascii_alphanumeric, is_ascii_digit, is_ascii_hexdigit, digit_value}, Fmt.decimal, Int.is_in_range, List.list_all, Str.{bytes_eq, Parse.{AllDigits, IsNumeral, digits_value}}}}
 use Rattle.hex.specs.Hex.{lower_digits, encode_with}
 use Rattle.printed_lines.specs.Line.{byte_digits}
 use Rattle.asm_text.specs.{declared.token.Token.TheVariants.Number, Word.{is_word_character, is_name_character, small_number, numeral, number_of}, Token.{number_piece, word_piece}}

@@ -1,11 +1,6 @@
 -- Operands between commas.
-use Rattle.std.proofs.Common.{◌≡◌, ◌∙◌, ap, sym, refl, ◌<◌, arith, Bool, true, false, not, List, [], ◌∷◌, ◌++◌, append-nil, length, get_or, Result, Ok}
-use Rattle.std.specs.Prelude.{map, All}
-use Rattle.std.specs.List.{list_all, slice_split}
-use Rattle.std.proofs.lemmas.Bool.{and_parts}
+use Rattle.std.{proofs.{Common.{◌≡◌, ◌∙◌, ap, sym, refl, ◌<◌, arith, Bool, true, false, not, List, [], ◌∷◌, ◌++◌, append-nil, length, get_or, Result, Ok}, lemmas.{Bool.and_parts, List.{Sums.AllPass-from_list_all, Splits.{slice_split_none, slice_split_at}}}}, specs.{Prelude.{map, All}, List.{list_all, slice_split}}}
 use borrow.Author.Tests.{not-true}
-use Rattle.std.proofs.lemmas.List.Sums.{AllPass-from_list_all}
-use Rattle.std.proofs.lemmas.List.Splits.{slice_split_none, slice_split_at}
 use Rattle.text_scan.specs.{declared.fault_kind.FaultKind.FaultKind, Reader.◌>>=◌}
 use Rattle.asm_text.specs.{declared.{operand.Operand.Operand, token.Token.{Token, TheVariants.Comma}}, Operand.{is_comma, parts_of, operand_of, operands_of, all_of}}
 use Rattle.text_round_trip.proofs.Words.{begins_with_colon}

@@ -1,14 +1,11 @@
 -- Which items assemble to the bytes that they are of.
-use Rattle.std.proofs.{Common.{◌≡◌, ◌∙◌, ap, sym, refl, ℕ, ◌+◌, ◌*◌, arith, Bool, true, false, List, length, length-append, ℤ, pos, Option, Some, None, Result, Ok, Err, subst, zero, suc, ◌/◌, ◌%◌, [], ◌∷◌, take}, lemmas.Bool.{and_parts, false≢true}}
-use Rattle.std.specs.Prelude.{◌&&◌, nat_le, flat_map, is_none, if◌then◌else◌, IsTrue, ◌↔◌}
+use Rattle.std.{proofs.{Common.{◌≡◌, ◌∙◌, ap, sym, refl, ℕ, ◌+◌, ◌*◌, arith, Bool, true, false, List, length, length-append, ℤ, pos, Option, Some, None, Result, Ok, Err, subst, zero, suc, ◌/◌, ◌%◌, [], ◌∷◌, take}, lemmas.Bool.{and_parts, false≢true}}, specs.Prelude.{◌&&◌, nat_le, flat_map, is_none, if◌then◌else◌, IsTrue, ◌↔◌}}
 use Rattle.word_arith.specs.declared.{op2.Op2.Op2, size.Size.Size}
 use Rattle.msp_decode.specs.{declared.{dest.Dest.Dest, one.One.One as OneOp, cond.Cond.Cond, constant.Gen.Gen, instr.Instr.Instr, source.Source.Source}, Completion.{words_of, source_words, dest_words, extension_count, completion}, Law.{HeadsAreSpelled, WordsAreWritten}}
 use Rattle.text_scan.specs.{declared.fault_kind.FaultKind.{FaultKind, TheVariants.Range}, Reader.◌>>=◌}
-use Rattle.msp_asm.specs.{Operand.{all_ones, constant_of, immediate}, Statement.word_bytes, declared.item.Item.Item, Item.{item_at, word_of_bytes, item_size}}
-use Rattle.msp_asm.proofs.StatementSize.{length-word_bytes}
+use Rattle.msp_asm.{specs.{Operand.{all_ones, constant_of, immediate}, Statement.word_bytes, declared.item.Item.Item, Item.{item_at, word_of_bytes, item_size}}, proofs.StatementSize.length-word_bytes}
 use Rattle.mem_map.specs.ImagePlace.{IsImage}
-use Rattle.text_round_trip.specs.Listing.{source_again, stays_within, instr_again, bytes_again, is_plain_source, is_plain_instr, is_plain, AreSameBytes, AreAt}
-use Rattle.text_round_trip.proofs.ListedPlace.{item-holds, WordsAt}
+use Rattle.text_round_trip.{specs.Listing.{source_again, stays_within, instr_again, bytes_again, is_plain_source, is_plain_instr, is_plain, AreSameBytes, AreAt}, proofs.ListedPlace.{item-holds, WordsAt}}
 use Rattle.msp_decode.specs.declared.instr.Instr.TheVariants as instrs
 use Rattle.msp_decode.specs.declared.source.Source.TheVariants as source
 use Rattle.word_arith.specs.declared.size.Size.TheVariants as sizes

@@ -1,16 +1,12 @@
 -- The lines of a play, read one after another.
-use Rattle.std.proofs.{Common.{◌∙◌, ℕ, ◌%◌, ◌<◌, Bool, true, false, List, [], ◌∷◌, ◌++◌, Option, Some, None, IfSome, Ok, length, append-nil, ap, subst, arith, ◌≡◌, ◌&&◌, ◌⊎◌, inl, inr, refl, sym}, lemmas.Bool.and_parts}
-use Rattle.std.specs.{Prelude.{◌==◌, ◌^◌, if◌then◌else◌, not, nat_le, is_none}, Option.option_to_list, Str.bytes_eq}
+use Rattle.std.{proofs.{Common.{◌∙◌, ℕ, ◌%◌, ◌<◌, Bool, true, false, List, [], ◌∷◌, ◌++◌, Option, Some, None, IfSome, Ok, length, append-nil, ap, subst, arith, ◌≡◌, ◌&&◌, ◌⊎◌, inl, inr, refl, sym}, lemmas.Bool.and_parts}, specs.{Prelude.{◌==◌, ◌^◌, if◌then◌else◌, not, nat_le, is_none}, Option.option_to_list, Str.bytes_eq}}
 use Rattle.device_types.specs.{declared.{access.Access.{Access, TheVariants.Write}, bus_record.BusRecord.BusRecord, rule.Rule.Rule}, Report.ReportFields, ExecFlag.SeenHistory, Address.{Bytes, Contents}, Kind.is_rom, Map.ROM_EXIT}
 use Rattle.part_definitions.specs.{Request.{ATTESTS, request_decision, right_token}, Serial.SERIAL_SEND, PeripheralRegister.covers, Hmac.Digest, Metadata.{counter_in, token_in, little_endian}}
 use Rattle.device_trace.specs.{Trace.{Play, logs_after, trace}, Logs.{Logs, exec_of, logged_byte, step_progress, with_events, with_record}, Progress.next_pc_of, Start.{Start, with_key}, Step.next_record, Text.{byte_sent_by, byte_sent_in, report_of, report_where, report_in, denial_in, some_line, step_lines, lines_of, play_text, end_line_after, denial_where, last_decision, last_denial}}
 use Rattle.printed_lines.specs.Line.{sent_line, reset_line, report_line, denied_line}
-use Rattle.mac_coverage.specs.Coverage.{IsDeviceKey, IsOfBytes, ends_in_call, ends_finished, MacCoversCall}
-use Rattle.mac_coverage.proofs.{Device.{PowerOnBytes, byte_after-byte}, Words.are_bytes, Covers.decision_after-finishes, Plays.mac_covers_call}
-use Rattle.report_text.specs.ReadBack.{IsPrintable}
-use Rattle.report_text.proofs.ReadLines.{ReadsAs, reads-none, reads-both, reads-whole, reads-report, reads-sent, reads-reset, reads-denied, reads-end}
-use Rattle.text_round_trip.specs.ReadBack.{play_reports, FitsItsLines, IsPlayReadBack}
-use Rattle.text_round_trip.proofs.PrintableReport.{printable-report}
+use Rattle.mac_coverage.{specs.Coverage.{IsDeviceKey, IsOfBytes, ends_in_call, ends_finished, MacCoversCall}, proofs.{Device.{PowerOnBytes, byte_after-byte}, Words.are_bytes, Covers.decision_after-finishes, Plays.mac_covers_call}}
+use Rattle.report_text.{specs.ReadBack.IsPrintable, proofs.ReadLines.{ReadsAs, reads-none, reads-both, reads-whole, reads-report, reads-sent, reads-reset, reads-denied, reads-end}}
+use Rattle.text_round_trip.{specs.ReadBack.{play_reports, FitsItsLines, IsPlayReadBack}, proofs.PrintableReport.printable-report}
 
 -- A call that denies has decided 2 or 3.
 

@@ -1,11 +1,8 @@
 -- The report of a play whose memory holds bytes can be printed.
-use Rattle.std.proofs.Common.{◌≡◌, ℕ, zero, suc, ◌+◌, ◌-◌, ◌*◌, ◌<◌, Bool, true, false, Some, None, IfSome, length, refl, arith}
-use Rattle.std.specs.Prelude.{◌^◌, if◌then◌else◌, IsTrue}
-use Rattle.std.proofs.lemmas.Bool.{eq-eqb}
+use Rattle.std.{proofs.{Common.{◌≡◌, ℕ, zero, suc, ◌+◌, ◌-◌, ◌*◌, ◌<◌, Bool, true, false, Some, None, IfSome, length, refl, arith}, lemmas.Bool.eq-eqb}, specs.Prelude.{◌^◌, if◌then◌else◌, IsTrue}}
 use Rattle.hex.specs.Hex.{IsBytes}
 use Rattle.device_types.specs.{declared.{bounds.Bounds.Bounds, version.Version.TheVariants.Two}, Bounds.{are_valid, AreWords}, Map.{metadata_region, mac_region}}
-use Rattle.part_definitions.specs.{Memory.bytes_from, Metadata.{bounds_in, counter_bytes, little_endian}, Region.output_bytes}
-use Rattle.part_definitions.proofs.BytesFrom.{length-bytes_from}
+use Rattle.part_definitions.{specs.{Memory.bytes_from, Metadata.{bounds_in, counter_bytes, little_endian}, Region.output_bytes}, proofs.BytesFrom.length-bytes_from}
 use Rattle.device_trace.specs.{Logs.{Logs, logged_byte, logged_bounds}, Start.Start, Text.report_of}
 use Rattle.report_text.specs.{ReadBack.{IsBlock, IsPrintable}, ReportFile.output_fits}
 

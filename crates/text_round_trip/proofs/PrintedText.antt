@@ -1,16 +1,9 @@
 -- What is written has printed characters alone.
-use Rattle.std.proofs.Common.{◌≡◌, ◌∙◌, ap, refl, ℕ, ◌≤◌, arith, Bool, true, false, inl, inr, List, [], ◌∷◌, ◌++◌, length, Option, Some, None}
-use Rattle.std.specs.Prelude.{◌==◌, ◌&&◌, ◌||◌, codes, map, nat_le, nat_lt, not}
-use Rattle.std.specs.Char.{is_ascii_alphanumeric, is_ascii_digit}
-use Rattle.std.specs.Int.{is_in_range}
-use Rattle.std.specs.List.{list_all}
-use Rattle.std.proofs.lemmas.Bool.{and_parts, and_from, or_cases, le-leb, leb-true, ltb-true, eqb-true}
-use Rattle.std.proofs.lemmas.List.Folds.{list_all-append}
+use Rattle.std.{proofs.{Common.{◌≡◌, ◌∙◌, ap, refl, ℕ, ◌≤◌, arith, Bool, true, false, inl, inr, List, [], ◌∷◌, ◌++◌, length, Option, Some, None}, lemmas.{Bool.{and_parts, and_from, or_cases, le-leb, leb-true, ltb-true, eqb-true}, List.Folds.list_all-append}}, specs.{Prelude.{◌==◌, ◌&&◌, ◌||◌, codes, map, nat_le, nat_lt, not}, Char.{is_ascii_alphanumeric, is_ascii_digit}, Int.is_in_range, List.list_all}}
 use Rattle.asm_text.specs.{Token.is_text_character, Word.{is_word_character, is_name_character}, Name.{mnemonic_name, reg_name}, declared.{term.Term.{Term, TheVariants.{Number, Name, Here}}, operand.Operand.{Operand, TheVariants.{Reg, Imm, Abs, Indexed, Symbolic, Indirect, IndirectInc}}, body.Body.{Body, TheVariants.{Empty, Instr, Org, Word, Byte, Ascii, Equ}}, statement.Statement.Statement}, Expr.SignedTerm}
 use Rattle.msp_asm.specs.ItemText.{size_suffix}
-use Rattle.text_round_trip.specs.{ReadBack.AreNumerals, StatementText.{Numerals, term_text, sign_text, more_text, expr_text, operand_text, more_operands_text, operands_text, operand_list, body_text, label_text, statement_text}, Writable.{is_free_name, is_writable_term, is_writable_expr, is_writable_operand, is_none_or_writable, is_writable_body, is_free_label, is_writable}}
+use Rattle.text_round_trip.{specs.{ReadBack.AreNumerals, StatementText.{Numerals, term_text, sign_text, more_text, expr_text, operand_text, more_operands_text, operands_text, operand_list, body_text, label_text, statement_text}, Writable.{is_free_name, is_writable_term, is_writable_expr, is_writable_operand, is_none_or_writable, is_writable_body, is_free_label, is_writable}}, proofs.{Numerals.number-is, WrittenDirective.symbolic-are, WrittenStatement.{instruction-parts, are_operands}, Words.mnemonic-operation, WrittenExpr.{are_terms, terms-are, name-characters}}}
 use Rattle.msp_decode.specs.{declared.reg.Reg.{Reg as Register, TheVariants.R0}}
-use Rattle.text_round_trip.proofs.{Numerals.number-is, WrittenDirective.symbolic-are, WrittenStatement.{instruction-parts, are_operands}, Words.mnemonic-operation, WrittenExpr.{are_terms, terms-are, name-characters}}
 
 -- from a space (32) to a tilde (126)
 abbrev pub is_printed : ℕ → Bool

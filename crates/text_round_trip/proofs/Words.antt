@@ -1,9 +1,5 @@
 -- Words that are registers, and words that are operations.
-use Rattle.std.proofs.Common.{◌≡◌, ◌∙◌, ap, sym, refl, ℕ, ◌<◌, arith, Bool, true, false, List, [], ◌∷◌, ◌++◌, append_assoc, append-nil, length, Option, Some, None, Result, Ok}
-use Rattle.std.specs.Prelude.{codes, slice_index, if◌then◌else◌}
-use Rattle.std.specs.Char.{is_ascii_digit}
-use Rattle.std.specs.List.{list_all}
-use Rattle.std.proofs.lemmas.Bool.{false≢true}
+use Rattle.std.{proofs.{Common.{◌≡◌, ◌∙◌, ap, sym, refl, ℕ, ◌<◌, arith, Bool, true, false, List, [], ◌∷◌, ◌++◌, append_assoc, append-nil, length, Option, Some, None, Result, Ok}, lemmas.Bool.false≢true}, specs.{Prelude.{codes, slice_index, if◌then◌else◌}, Char.is_ascii_digit, List.list_all}}
 use Rattle.word_arith.specs.declared.op2.Op2.TheVariants as op
 use Rattle.word_arith.specs.declared.size.Size.{Size}
 use Rattle.word_arith.specs.declared.size.Size.TheVariants as sizes
@@ -16,8 +12,7 @@ use Rattle.asm_text.specs.declared.emulated.Emulated.TheVariants as emulated
 use Rattle.asm_text.specs.declared.mnemonic.Mnemonic.TheVariants as mnemonics
 use Rattle.asm_text.specs.declared.operation.Operation.TheVariants as operations
 use Rattle.msp_asm.specs.ItemText.{size_suffix}
-use Rattle.text_round_trip.specs.Writable.{has_size}
-use Rattle.text_round_trip.proofs.Falls.{FallsInto, word-falls, falls-then, falls-apart, blank-falls}
+use Rattle.text_round_trip.{specs.Writable.has_size, proofs.Falls.{FallsInto, word-falls, falls-then, falls-apart, blank-falls}}
 
 pub register-falls : (register : Reg)
     → FallsInto (reg_name register) (Register register ∷ [])

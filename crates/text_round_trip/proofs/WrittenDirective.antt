@@ -1,15 +1,10 @@
 -- Directives are read back.
-use Rattle.std.proofs.Common.{◌≡◌, ◌∙◌, ap, refl, ℕ, ◌+◌, arith, Bool, true, false, not, cond, List, [], ◌∷◌, ◌++◌, append_assoc, length, length-append, take, Option, Result, Ok, Some}
-use Rattle.std.specs.Prelude.{◌==◌, codes, map, slice_index, nat_lt, if◌then◌else◌}
-use Rattle.std.specs.List.{list_all, position_or_len}
-use Rattle.std.proofs.Math.Seq.{take-append_seam}
-use Rattle.std.proofs.lemmas.Bool.{and_parts, and_from, false≢true}
+use Rattle.std.{proofs.{Common.{◌≡◌, ◌∙◌, ap, refl, ℕ, ◌+◌, arith, Bool, true, false, not, cond, List, [], ◌∷◌, ◌++◌, append_assoc, length, length-append, take, Option, Result, Ok, Some}, Math.Seq.take-append_seam, lemmas.Bool.{and_parts, and_from, false≢true}}, specs.{Prelude.{◌==◌, codes, map, slice_index, nat_lt, if◌then◌else◌}, List.{list_all, position_or_len}}}
 use Rattle.text_scan.specs.{declared.fault_kind.FaultKind.FaultKind, Reader.◌>>=◌}
 use Rattle.asm_text.specs.{declared.{body.Body.{Body, TheVariants.{Empty, Org, Word, Byte, Ascii, Equ}}, operand.Operand.{Operand, TheVariants.Symbolic}, operation.Operation.Operation, term.Term.TheVariants.Name, token.Token.TheVariants.Text}, Expr.SignedTerm, Statement.{body_of, is_ascii_directive, all_exprs, exprs_of, operation_body, statement_body}, Token.{word_token, is_text_character, ends_text, piece_of}}
 use Rattle.asm_text.specs.declared.operation.Operation.TheVariants as operations
 use Rattle.asm_text.specs.declared.piece.Piece.TheVariants as pieces
-use Rattle.text_round_trip.specs.{ReadBack.AreNumerals, StatementText.{Numerals, operands_text, body_text}, Writable.{is_free_name, is_writable_expr, are_writable, is_writable_body}}
-use Rattle.text_round_trip.proofs.{Falls.{FallsInto, token-prefix, falls-then, falls-apart, falls-nothing, blank-falls}, Words.{IsOperation, operation-falls, first-operation, no_label}, WrittenStatement.{IsBodyText, are_operands, operation-body}}
+use Rattle.text_round_trip.{specs.{ReadBack.AreNumerals, StatementText.{Numerals, operands_text, body_text}, Writable.{is_free_name, is_writable_expr, are_writable, is_writable_body}}, proofs.{Falls.{FallsInto, token-prefix, falls-then, falls-apart, falls-nothing, blank-falls}, Words.{IsOperation, operation-falls, first-operation, no_label}, WrittenStatement.{IsBodyText, are_operands, operation-body}}}
 
 -- nothing
 pub empty-text : IsBodyText [] Empty

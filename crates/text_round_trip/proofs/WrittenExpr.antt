@@ -1,15 +1,10 @@
 -- The tokens of expressions, and what they are read as.
-use Rattle.std.proofs.Common.{◌≡◌, ◌∙◌, ap, refl, ℕ, ◌<◌, arith, Bool, true, false, not, List, [], ◌∷◌, length, Option, Some, None, Ok}
-use Rattle.std.specs.Prelude.{◌==◌, ◌&&◌, slice_index, is_none, nat_lt, nat_le, if◌then◌else◌}
-use Rattle.std.specs.Char.{is_ascii_digit}
-use Rattle.std.specs.List.{list_all}
-use Rattle.std.proofs.lemmas.Bool.{and_parts, and_from, or_left, false≢true, ltb-true}
+use Rattle.std.{proofs.{Common.{◌≡◌, ◌∙◌, ap, refl, ℕ, ◌<◌, arith, Bool, true, false, not, List, [], ◌∷◌, length, Option, Some, None, Ok}, lemmas.Bool.{and_parts, and_from, or_left, false≢true, ltb-true}}, specs.{Prelude.{◌==◌, ◌&&◌, slice_index, is_none, nat_lt, nat_le, if◌then◌else◌}, Char.is_ascii_digit, List.list_all}}
 use Rattle.msp_decode.specs.declared.reg.Reg.{Reg}
 use Rattle.asm_text.specs.declared.piece.Piece.TheVariants as pieces
 use Rattle.asm_text.specs.{declared.{term.Term.{Term, TheVariants.{Number, Name, Here}}, token.Token.Token}, Expr.SignedTerm, Operand.{term_of, sign_of, terms_of, expr_of}, Token.{number_piece, word_piece, named_token, name_token, word_token}, Word.{is_word_character, is_name, is_name_character, number_of, operation_of, lower_case}, Name.register_of}
 use Rattle.asm_text.specs.declared.token.Token.TheVariants as tokens
-use Rattle.text_round_trip.specs.{ReadBack.AreNumerals, StatementText.{Numerals, term_text, sign_text, more_text, expr_text}, Writable.{is_free_name, is_writable_term, is_writable_expr}}
-use Rattle.text_round_trip.proofs.{Falls.{ends, FallsInto, FallsAlways, falls-then, falls-apart, falls-into, falls-nothing, word-falls, plus-falls, minus-falls, here-falls}, Numerals.number-falls}
+use Rattle.text_round_trip.{specs.{ReadBack.AreNumerals, StatementText.{Numerals, term_text, sign_text, more_text, expr_text}, Writable.{is_free_name, is_writable_term, is_writable_expr}}, proofs.{Falls.{ends, FallsInto, FallsAlways, falls-then, falls-apart, falls-into, falls-nothing, word-falls, plus-falls, minus-falls, here-falls}, Numerals.number-falls}}
 use borrow.Author.Tests.{not-true}
 
 abbrev pub token_of_name : List ℕ → Token

@@ -1,11 +1,8 @@
 -- A source is read back.
-use Rattle.std.proofs.{Common.{◌≡◌, ◌∙◌, ap, sym, subst, ℕ, zero, suc, ◌+◌, ◌<◌, ◌≤◌, arith, true, List, [], ◌∷◌, ◌++◌, append_assoc, length, get_or, refl, Result, Ok, Option, Some, None}, lemmas.{Bool.{and_parts, leb-true}, Str.IsUtf8-from_ascii}}
-use Rattle.std.specs.{Prelude.{codes, map, nat_le}, List.list_all, Str.{IsAscii, Lines.lines}}
-use Rattle.text_scan.specs.{declared.{fault_at.FaultAt.FaultAt, fault_kind.FaultKind.FaultKind}, LineFold.{numbered_lines, text_lines}, Reader.{◌>>=◌, in_line}}
-use Rattle.text_scan.proofs.{FirstLine.{lines_cut, lines-line}, TextUtf8.utf8_of-whole}
+use Rattle.std.{proofs.{Common.{◌≡◌, ◌∙◌, ap, sym, subst, ℕ, zero, suc, ◌+◌, ◌<◌, ◌≤◌, arith, true, List, [], ◌∷◌, ◌++◌, append_assoc, length, get_or, refl, Result, Ok, Option, Some, None}, lemmas.{Bool.{and_parts, leb-true}, Str.IsUtf8-from_ascii}}, specs.{Prelude.{codes, map, nat_le}, List.list_all, Str.{IsAscii, Lines.lines}}}
+use Rattle.text_scan.{specs.{declared.{fault_at.FaultAt.FaultAt, fault_kind.FaultKind.FaultKind}, LineFold.{numbered_lines, text_lines}, Reader.{◌>>=◌, in_line}}, proofs.{FirstLine.{lines_cut, lines-line}, TextUtf8.utf8_of-whole}}
 use Rattle.asm_text.specs.{declared.{statement.Statement.Statement, body.Body.{Body, TheVariants.{Empty, Instr, Org, Word, Byte, Ascii, Equ}}, token.Token.TheVariants.Colon}, Operand.all_of, Source.{statement_of, source_of, line_statement, statement_in_line}}
-use Rattle.text_round_trip.specs.{ReadBack.{AreNumerals, at_line, source_text, from_line}, StatementText.{Numerals, statement_text, body_text, label_text}, Writable.{is_writable, is_free_label, is_writable_body}}
-use Rattle.text_round_trip.proofs.{PrintedText.{is_printed, are_printed, line-printed}, Falls.{FallsInto, falls-then, falls-apart, colon-falls, blank-falls}, WrittenStatement.{IsBodyText, instruction-parts, instruction-text}, WrittenExpr.{token_of_name, name-falls}, Words.{without_label, line-read}, WrittenDirective.{empty-text, org-text, words-text, bytes-text, ascii-text, equ-text}}
+use Rattle.text_round_trip.{specs.{ReadBack.{AreNumerals, at_line, source_text, from_line}, StatementText.{Numerals, statement_text, body_text, label_text}, Writable.{is_writable, is_free_label, is_writable_body}}, proofs.{PrintedText.{is_printed, are_printed, line-printed}, Falls.{FallsInto, falls-then, falls-apart, colon-falls, blank-falls}, WrittenStatement.{IsBodyText, instruction-parts, instruction-text}, WrittenExpr.{token_of_name, name-falls}, Words.{without_label, line-read}, WrittenDirective.{empty-text, org-text, words-text, bytes-text, ascii-text, equ-text}}}
 
 -- A line is read back.
 

@@ -1,10 +1,8 @@
 -- A statement with operands, as it is written and as it is read.
-use Rattle.std.proofs.{Common.{◌≡◌, sym, refl, subst, ℕ, Bool, true, false, List, [], ◌∷◌, ◌++◌, append-nil, Some, Ok, ◌∙◌, Option, None, ap, ◌-◌, ◌<◌, arith, not, append_assoc, length, length-append, take, drop, Result}, lemmas.{Bool.{and_parts, false≢true, and_from}, List.{take-append-drop, Folds.list_all-append}}, Math.Seq.{drop-append_seam, take-append_seam}}
-use Rattle.std.specs.{Prelude.{map, ◌&&◌, codes}, List.list_all}
+use Rattle.std.{proofs.{Common.{◌≡◌, sym, refl, subst, ℕ, Bool, true, false, List, [], ◌∷◌, ◌++◌, append-nil, Some, Ok, ◌∙◌, Option, None, ap, ◌-◌, ◌<◌, arith, not, append_assoc, length, length-append, take, drop, Result}, lemmas.{Bool.{and_parts, false≢true, and_from}, List.{take-append-drop, Folds.list_all-append}}, Math.Seq.{drop-append_seam, take-append_seam}}, specs.{Prelude.{map, ◌&&◌, codes}, List.list_all}}
 use Rattle.text_scan.specs.{Reader.◌>>=◌, declared.fault_kind.FaultKind.FaultKind}
 use Rattle.asm_text.specs.{declared.{body.Body.{Body, TheVariants.Instr}, operand.Operand.{Operand, TheVariants.{Reg, Imm, Abs, Indexed, Symbolic, Indirect, IndirectInc}}, operation.Operation.Operation, token.Token.{Token, TheVariants.Comma}, mnemonic.Mnemonic.Mnemonic, operand_form.OperandForm.OperandForm}, Operand.{operand_of, operands_of, is_comma, expr_of, with_expr, place_operand, place_of}, Statement.{is_ascii_directive, body_of, statement_body, labelled_body, fits}, Token.word_token, Form.{form_of, operand_form}, Name.reg_name, Expr.SignedTerm}
-use Rattle.text_round_trip.specs.{ReadBack.AreNumerals, StatementText.{Numerals, operand_text, more_operands_text, operands_text, body_text, expr_text}, Writable.{is_writable_operand, is_none_or_writable, has_size, is_writable_body}}
-use Rattle.text_round_trip.proofs.{Falls.{FallsInto, falls-then, falls-apart, falls-nothing, blank-falls, comma-falls, falls-into, hash-falls, ampersand-falls, at-falls, plus-falls, open-falls, close-falls}, Operands.{no_colon-first, has_no_comma, joint_tokens, joint-read, IsOperandOf}, Words.{IsOperation, begins_with_colon, without_label, operation-falls, no_label, operation-read, mnemonic-operation, register-falls}, WrittenExpr.{terms-are, expr_tokens, expr-falls, expr-read, is_expr_token, are_expr_tokens, expr-are, expr-some}}
+use Rattle.text_round_trip.{specs.{ReadBack.AreNumerals, StatementText.{Numerals, operand_text, more_operands_text, operands_text, body_text, expr_text}, Writable.{is_writable_operand, is_none_or_writable, has_size, is_writable_body}}, proofs.{Falls.{FallsInto, falls-then, falls-apart, falls-nothing, blank-falls, comma-falls, falls-into, hash-falls, ampersand-falls, at-falls, plus-falls, open-falls, close-falls}, Operands.{no_colon-first, has_no_comma, joint_tokens, joint-read, IsOperandOf}, Words.{IsOperation, begins_with_colon, without_label, operation-falls, no_label, operation-read, mnemonic-operation, register-falls}, WrittenExpr.{terms-are, expr_tokens, expr-falls, expr-read, is_expr_token, are_expr_tokens, expr-are, expr-some}}}
 use Rattle.word_arith.specs.declared.size.Size.{Size}
 use Rattle.msp_decode.specs.declared.reg.Reg.{Reg as Register}
 use Rattle.asm_text.specs.declared.operand_form.OperandForm.TheVariants as forms

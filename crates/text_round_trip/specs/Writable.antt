@@ -1,6 +1,5 @@
 -- What can be written in a line.
-use Rattle.std.specs.Prelude.{ℕ, ◌&&◌, Bool, true, List, length, nat_lt, Option, None, Some, is_none}
-use Rattle.std.specs.List.{list_all}
+use Rattle.std.specs.{Prelude.{ℕ, ◌&&◌, Bool, true, List, length, nat_lt, Option, None, Some, is_none}, List.list_all}
 use Rattle.word_arith.specs.declared.size.Size.{Size}
 use Rattle.word_arith.specs.declared.size.Size.TheVariants as sizes
 use Rattle.asm_text.specs.{declared.{mnemonic.Mnemonic.Mnemonic, term.Term.{Term, TheVariants.{Number, Name, Here}}, operand.Operand.{Operand, TheVariants.{Reg, Imm, Abs, Indexed, Symbolic, Indirect, IndirectInc}}, body.Body.{Body, TheVariants.{Empty, Instr, Org, Word, Byte, Ascii, Equ}}, statement.Statement.Statement}, Expr.SignedTerm, Form.{form_of, has_byte_form, operand_form}, Name.register_of, Statement.fits, Token.is_text_character, Word.{is_name, lower_case}}

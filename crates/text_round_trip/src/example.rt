@@ -1,5 +1,4 @@
-ghost use Rattle.std.specs.Prelude.{◌≡◌, codes, true};
-ghost use Rattle.std.specs.Fmt.{decimal};
+ghost use Rattle.std.specs.{Prelude.{◌≡◌, codes, true}, Fmt.decimal};
 ghost use Rattle.text_round_trip.specs.{Example.labelled_move, StatementText.statement_text, Writable.is_writable};
 
 /// A label, a byte instruction, a sum with a name, and an index.

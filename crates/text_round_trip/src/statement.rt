@@ -1,5 +1,4 @@
-ghost use Rattle.std.specs.Prelude.{◌≡◌, ℕ, List, IsTrue, Ok};
-ghost use Rattle.std.specs.List.{list_all};
+ghost use Rattle.std.specs.{Prelude.{◌≡◌, ℕ, List, IsTrue, Ok}, List.list_all};
 ghost use Rattle.asm_text.specs.{declared.statement.Statement.Statement, Source.{line_statement, source_of}};
 ghost use Rattle.text_round_trip.specs.{ReadBack.{AreNumerals, at_line, source_text, from_line}, StatementText.{Numerals, statement_text}, Writable.is_writable};
 

@@ -1,5 +1,4 @@
-ghost use Rattle.std.specs.Prelude.{◌≡◌, ◌∷◌, ◌<◌, ◌≤◌, ℕ, List, length, drop, slice_index, true, false, Ok, Err, IfOk, IfErr, OnOk};
-ghost use Rattle.std.specs.Iterator.{YieldsFirstRef, item_count};
+ghost use Rattle.std.specs.{Prelude.{◌≡◌, ◌∷◌, ◌<◌, ◌≤◌, ℕ, List, length, drop, slice_index, true, false, Ok, Err, IfOk, IfErr, OnOk}, Iterator.{YieldsFirstRef, item_count}};
 ghost use Rattle.text_scan.specs.Word.{is_blank, words_of, next_word, keyword_of, end_of, is_passed_over};
 
 use crate::fault_kind::FaultKind;

@@ -1,6 +1,5 @@
 -- The bounds stay as they are where no write touches the metadata.
-use Rattle.std.proofs.{Common.{◌≡◌, ℕ, ◌+◌, ◌*◌, ◌/◌, true, false, List, ◌++◌, Option, Some, None, refl, sym, ◌∙◌, arith, ◌%◌}, lemmas.{Bool.{or_parts, cond-false, or_from, Decides.nat_tests}, List.Folds.list_any-append}}
-use Rattle.std.specs.{Prelude.{◌==◌, ◌||◌, option_to_list, ◌&&◌}, List.list_any}
+use Rattle.std.{proofs.{Common.{◌≡◌, ℕ, ◌+◌, ◌*◌, ◌/◌, true, false, List, ◌++◌, Option, Some, None, refl, sym, ◌∙◌, arith, ◌%◌}, lemmas.{Bool.{or_parts, cond-false, or_from, Decides.nat_tests}, List.Folds.list_any-append}}, specs.{Prelude.{◌==◌, ◌||◌, option_to_list, ◌&&◌}, List.list_any}}
 use Rattle.word_arith.specs.declared.size.Size.TheVariants.{Byte, Word}
 use Rattle.device_types.specs.{declared.{access.Access.{Access, TheVariants.{Fetch, Read, Write}}, bus_record.BusRecord.BusRecord, rule.Rule.Rule, region.Region.Region}, Map.{lies_in, metadata_region, touches, some_touches}, ExecFlag.{accesses_in, writes_to}, Access.{is_write, some_writes}}
 use Rattle.part_definitions.specs.Memory.{MemoryWrite, last_written, with_access}

@@ -1,9 +1,6 @@
 -- What a step breaks, by its first rule: no rule where it has none, A1 or K3 where that is it.
-use Rattle.std.proofs.Common.{◌≡◌, ℕ, Bool, true, false, ◌⊎◌, inl, inr, Option, Some, None, refl, arith}
-use Rattle.std.specs.Prelude.{if◌then◌else◌}
-use Rattle.std.proofs.lemmas.Bool.Decides.{nat_tests}
+use Rattle.std.{proofs.{Common.{◌≡◌, ℕ, Bool, true, false, ◌⊎◌, inl, inr, Option, Some, None, refl, arith}, lemmas.Bool.Decides.nat_tests}, specs.{Prelude.if◌then◌else◌, Option.option_or}}
 use Rattle.device_types.specs.{declared.{rule.Rule.{Rule, TheVariants.{X0, A1, A2, A3, A4, K1, K2, K3, K4, K5, K6, I1}}, signals.Signals.Signals}}
-use Rattle.std.specs.Option.{option_or}
 use Rattle.part_definitions.specs.{FirstRule.{breaks_x0, breaks_i1, rule_where, first_rule}, MonitorRule.{breaks_a1, breaks_a2, breaks_a3, breaks_a4, breaks_k1, breaks_k2, breaks_k3, breaks_k4, breaks_k5, breaks_k6, key_rule, atomicity_rule}}
 
 pub record BreaksNoKeyRule (now : Signals) : Type 0 where

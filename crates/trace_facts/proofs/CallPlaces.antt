@@ -1,12 +1,9 @@
 -- Where the accesses of a call lie.
-use Rattle.std.proofs.{Common.{◌≡◌, ℕ, ◌+◌, ◌-◌, ◌*◌, ◌/◌, ◌<◌, ◌≤◌, true, false, ◌⊎◌, arith, inl, inr, refl, subst, sym}, lemmas.Bool.{cond_both, ltb-true, ltb-false, eqb-true, eqb-false, Decides.nat_tests}}
-use Rattle.std.specs.Prelude.{nat_lt, ◌==◌, if◌then◌else◌}
+use Rattle.std.{proofs.{Common.{◌≡◌, ℕ, ◌+◌, ◌-◌, ◌*◌, ◌/◌, ◌<◌, ◌≤◌, true, false, ◌⊎◌, arith, inl, inr, refl, subst, sym}, lemmas.Bool.{cond_both, ltb-true, ltb-false, eqb-true, eqb-false, Decides.nat_tests}}, specs.Prelude.{nat_lt, ◌==◌, if◌then◌else◌}}
 use Rattle.word_arith.specs.declared.size.Size.TheVariants.{Word}
-use Rattle.device_types.specs.{declared.{access.Access.TheVariants.Read, bounds.Bounds.Bounds}, Bounds.are_valid, Map.{lies_in, mac_region, metadata_region}}
-use Rattle.device_types.proofs.ValidRange.{IsValidRange, are_valid-ranges}
-use Rattle.part_definitions.specs.{Attestation.{CallItem, KeyRead, MetadataRead, KeptRead, KeptWrite, DecisionWrite, DerivedKeyWrite, RegionRead, InnerDigestWrite, MacWrite, ReturnRead, words_between, executable_words, region_words, region_place}, Request.ATTESTS}
+use Rattle.device_types.{specs.{declared.{access.Access.TheVariants.Read, bounds.Bounds.Bounds}, Bounds.are_valid, Map.{lies_in, mac_region, metadata_region}}, proofs.ValidRange.{IsValidRange, are_valid-ranges}}
+use Rattle.part_definitions.{specs.{Attestation.{CallItem, KeyRead, MetadataRead, KeptRead, KeptWrite, DecisionWrite, DerivedKeyWrite, RegionRead, InnerDigestWrite, MacWrite, ReturnRead, words_between, executable_words, region_words, region_place}, Request.ATTESTS}, proofs.CallItems.{item_after, item_after-is, item_until_decision, item_of_attestation}}
 use Rattle.device_trace.specs.Blank.{touches_secrets}
-use Rattle.part_definitions.proofs.CallItems.{item_after, item_after-is, item_until_decision, item_of_attestation}
 
 -- The item of a call after so many words, and its number.
 

@@ -1,6 +1,5 @@
 -- Where EXEC is set, the bounds are valid.
-use Rattle.std.proofs.{Common.{◌≡◌, Bool, true, false, List, [], ◌∷◌, ◌⊎◌, inl, inr, refl, ap, ◌∙◌, not, Option, Some, None, arith}, lemmas.Bool.{and_parts, or_cases, or_parts}}
-use Rattle.std.specs.{Prelude.{◌==◌, ◌&&◌, is_some, if◌then◌else◌}, List.list_any}
+use Rattle.std.{proofs.{Common.{◌≡◌, Bool, true, false, List, [], ◌∷◌, ◌⊎◌, inl, inr, refl, ap, ◌∙◌, not, Option, Some, None, arith}, lemmas.Bool.{and_parts, or_cases, or_parts}}, specs.{Prelude.{◌==◌, ◌&&◌, is_some, if◌then◌else◌}, List.list_any}}
 use Rattle.device_types.specs.{declared.bus_record.BusRecord.BusRecord, Bounds.are_valid, Map.metadata_region, ExecFlag.{SeenRecord, accesses_in, writes_to, is_opcode_fetch, clears_e3, clears_e4, clears_e9, clears, starts_run, last_pc, records_since, exec}}
 use Rattle.part_definitions.specs.TrustedFlag.{clears_aux, aux}
 use Rattle.device_trace.specs.{Trace.{Play, logs_after}, Logs.{Logs, exec_of, logged_bounds, with_events, with_record}, Start.Start, Step.next_record}

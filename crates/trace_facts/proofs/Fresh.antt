@@ -1,6 +1,5 @@
 -- In the middle of an instruction or of an interrupt entry the last record is one of it.
-use Rattle.std.proofs.Common.{◌≡◌, ℕ, List, Option, Some, refl}
-use Rattle.std.proofs.lemmas.Bool.{cond_both}
+use Rattle.std.proofs.{Common.{◌≡◌, ℕ, List, Option, Some, refl}, lemmas.Bool.cond_both}
 use Rattle.device_types.specs.{declared.{access.Access.Access, kind.Kind.Kind}}
 use Rattle.part_definitions.specs.{Attestation.{call_item, is_return, word_passed}, CpuRegister.pc_of, CpuState.{CpuState, Boundary, Executing, Entering, cpu_pc, with_value, completion_or}, NextAccess.{Next, Asks, Completes}}
 use Rattle.device_trace.specs.{Trace.{Play, logs_after}, Logs.Logs, Progress.{Progress, Held, Runs, InCall, next_pc_of, after_return, call_after, cpu_state_after, next_progress}, Signals.step_kind, Start.Start}

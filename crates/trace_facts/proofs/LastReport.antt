@@ -1,7 +1,5 @@
 -- A report is made where a call has decided to attest, of what the logs tell.
-use Rattle.std.proofs.Common.{◌≡◌, ℕ, [], ◌∷◌, length, Option, Some, None, ap}
-use Rattle.std.specs.Prelude.{◌==◌}
-use Rattle.std.proofs.lemmas.Bool.{eqb-true}
+use Rattle.std.{proofs.{Common.{◌≡◌, ℕ, [], ◌∷◌, length, Option, Some, None, ap}, lemmas.Bool.eqb-true}, specs.Prelude.◌==◌}
 use Rattle.device_types.specs.Report.{ReportFields}
 use Rattle.part_definitions.specs.Request.{ATTESTS}
 use Rattle.device_trace.specs.{Trace.{Play, logs_after}, Logs.Logs, Start.Start, Text.{last_decision, last_report, report_of, report_where}}

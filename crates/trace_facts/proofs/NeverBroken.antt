@@ -1,14 +1,10 @@
 -- Rules A1 and K3 hold in no step.
-use Rattle.std.proofs.Common.{◌≡◌, ◌+◌, ◌*◌, ◌/◌, ◌<◌, ℕ, Bool, true, false, not, length, Option, Some, All, refl, sym, ◌∙◌, arith, lit≤}
-use Rattle.std.specs.Prelude.{◌==◌, ◌&&◌}
-use Rattle.std.proofs.lemmas.Bool.{cond_both, and_left, and_right, not_from_true}
-use Rattle.std.proofs.lemmas.Bool.Decides.{nat_tests}
+use Rattle.std.{proofs.{Common.{◌≡◌, ◌+◌, ◌*◌, ◌/◌, ◌<◌, ℕ, Bool, true, false, not, length, Option, Some, All, refl, sym, ◌∙◌, arith, lit≤}, lemmas.Bool.{cond_both, and_left, and_right, not_from_true, Decides.nat_tests}}, specs.Prelude.{◌==◌, ◌&&◌}}
 use Rattle.word_arith.specs.declared.size.Size.TheVariants.{Word}
 use Rattle.device_types.specs.{declared.{access.Access.TheVariants.Write, bounds.Bounds.Bounds, kind.Kind.Kind, rule.Rule.TheVariants.{A1, K3}}, Access.some_writes, Kind.is_boot, Map.{ROM_ENTRY, ROM_BODY}, ExecFlag.last_pc}
 use Rattle.part_definitions.specs.{Attestation.{CallItem, KeyRead, MetadataRead, KeptRead, KeptWrite, DecisionWrite, DerivedKeyWrite, RegionRead, InnerDigestWrite, MacWrite, ReturnRead, region_words, bounds_read, decision_read, call_item, item_access, item_pc}, CpuRegister.sp_of, CpuState.cpu_pc, FirstRule.first_rule, MonitorRule.{in_rom, was_inside, leaves_stack_and_mac, breaks_a1, breaks_k3}}
 use Rattle.device_trace.specs.{Trace.{Play, trace}, Logs.{Logs, vector_of, step_progress}, Progress.{Progress, Held, Runs, InCall, next_pc_of, kind_of, progress_within, access_of}, Signals.{step_kind, signals_at, signals_of}, Start.Start, Step.record_of}
-use Rattle.trace_facts.specs.Naming.{NamesNeitherA1NorK3}
-use Rattle.trace_facts.proofs.{CallPlaces.{ItemFits, item_after-fits}, Sound.{IsSound, IsWithin, progress_within-right}, SoundPlay.{LogsAreSound, each_record}, BreaksNoRule.{atomicity_rule-none, first_rule-a1, first_rule-k3}}
+use Rattle.trace_facts.{specs.Naming.NamesNeitherA1NorK3, proofs.{CallPlaces.{ItemFits, item_after-fits}, Sound.{IsSound, IsWithin, progress_within-right}, SoundPlay.{LogsAreSound, each_record}, BreaksNoRule.{atomicity_rule-none, first_rule-a1, first_rule-k3}}}
 
 -- A1: the ROM is left at its exit alone
 pub item_pc-in_rom : (item : CallItem) → in_rom (item_pc item) ≡ true

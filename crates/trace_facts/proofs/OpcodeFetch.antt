@@ -1,7 +1,6 @@
 -- Of every step the signal `opcode` tells what kind and access tell: the processor fetches at its
 -- `pc`.
-use Rattle.std.proofs.{Common.{◌≡◌, ℕ, Bool, [], ◌∷◌, Option, length, refl, List, Some, None, ◌⊎◌, ◌%◌, true, false, ◌++◌, ap, arith, inl, inr}, lemmas.Bool.{cond_both, ne_eqb, eq-eqb}}
-use Rattle.std.specs.Prelude.{◌&&◌, ◌==◌}
+use Rattle.std.{proofs.{Common.{◌≡◌, ℕ, Bool, [], ◌∷◌, Option, length, refl, List, Some, None, ◌⊎◌, ◌%◌, true, false, ◌++◌, ap, arith, inl, inr}, lemmas.Bool.{cond_both, ne_eqb, eq-eqb}}, specs.Prelude.{◌&&◌, ◌==◌}}
 use Rattle.device_types.specs.{declared.{kind.Kind.{Kind, TheVariants.{Boot, Cpu, Idle, Irq, Rom}}, access.Access.Access}, Kind.is_cpu, ExecFlag.fetches_at, Address.even}
 use Rattle.part_definitions.specs.{CpuState.{Boundary, Executing, Entering, ask_of}, Attestation.{call_item, is_return, word_passed}, CpuRegister.{clear_registers, after_pop, plus, pc_of, after_word}, BusAccess.{read_at, write_at}, Instruction.{bus_access, after_value}, NextAccess.{walk, walk_head, next_access}, Operand.{size_of, state_at_start, after_increment}, CpuAccess.{source_accesses, result_accesses, destination_accesses, operand_accesses, write_back}, declared.{cpu_access.CpuAccess.{CpuAccess, TheVariants.{FetchImmediate, FetchSourceIndex, ReadSource, ReadIncrementing, FetchDestinationIndex, ReadDestination, WriteResult, PushSource, PushPc, PopSr, PopPc}}, working_state.WorkingState.WorkingState}}
 use Rattle.device_trace.specs.{Logs.{Logs, vector_of}, Progress.{Progress, Held, Runs, InCall, kind_of, next_pc_of, progress_within, access_of, fetches_opcode, progress_from_boundary, after_return, call_after, next_progress}, Signals.{step_kind, signals_at, signals_of}, Start.Start, Trace.{Play, logs_after}}

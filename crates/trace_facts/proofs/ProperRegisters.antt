@@ -1,6 +1,5 @@
 -- Registers whose PC is even, as every write to PC leaves them.
-use Rattle.std.proofs.Common.{◌≡◌, ℕ, ◌/◌, ◌*◌, ◌%◌, List, [], ◌∷◌, Option, Some, None, arith}
-use Rattle.std.proofs.lemmas.Bool.{cond_both}
+use Rattle.std.proofs.{Common.{◌≡◌, ℕ, ◌/◌, ◌*◌, ◌%◌, List, [], ◌∷◌, Option, Some, None, arith}, lemmas.Bool.cond_both}
 use Rattle.word_arith.specs.declared.flags.Flags.{Flags}
 use Rattle.msp_decode.specs.{declared.{dest_form.DestForm.{DestForm, TheVariants.{Register as DestRegister, Indexed as DestIndexed}}, head.Head.{Head, TheVariants.{Two, One as OneOperand, Reti, Jump}}, one.One.{One, TheVariants.{Rrc, Swpb, Rra, Sxt, Push, Call}}, reg.Reg.{Reg, TheVariants.{R0, R1, R2, R3, R4, R5, R6, R7, R8, R9, R10, R11, R12, R13, R14, R15}}, source_form.SourceForm.{SourceForm, TheVariants.{Register, Indexed, Indirect, IndirectInc, Immediate, Constant}}}, Head.head_of}
 use Rattle.part_definitions.specs.{CpuRegister.{minus, pc_of, sp_of, with_register, with_pc, with_sp, with_flags, after_pop, flags_in}, CpuState.{CpuState, Boundary, Executing, Entering, cpu_next, with_value, completion_or, cpu_after}, Instruction.{has_result, result_of, with_destination, with_operand, after_one, after_result, is_taken, jump_target, after_value}, NextAccess.{Next, Asks, Completes, walk, walk_head, next_access, entry_access}, Operand.state_at_start, CpuAccess.accesses_of, declared.{cpu_access.CpuAccess.{CpuAccess, TheVariants.{FetchImmediate, FetchSourceIndex, ReadSource, ReadIncrementing, FetchDestinationIndex, ReadDestination, WriteResult, PushSource, PushPc, PopSr, PopPc}}, working_state.WorkingState.WorkingState}}

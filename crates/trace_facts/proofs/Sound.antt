@@ -1,8 +1,6 @@
 -- What holds of the progress between two steps: where the processor runs, the last step was not
 -- inside the ROM, and an instruction or an interrupt entry that has begun is not in the ROM either.
-use Rattle.std.proofs.Common.{◌≡◌, ℕ, Bool, true, false, List, Option, Some, None, refl, not}
-use Rattle.std.specs.Prelude.{◌==◌, ◌&&◌, is_some}
-use Rattle.std.proofs.lemmas.Bool.{cond_both, and_from, and_left, not_from_false}
+use Rattle.std.{proofs.{Common.{◌≡◌, ℕ, Bool, true, false, List, Option, Some, None, refl, not}, lemmas.Bool.{cond_both, and_from, and_left, not_from_false}}, specs.Prelude.{◌==◌, ◌&&◌, is_some}}
 use Rattle.device_types.specs.{declared.{access.Access.Access, kind.Kind.{Kind, TheVariants.{Boot, Cpu, Idle, Irq, Rom}}}, Map.ROM_ENTRY}
 use Rattle.part_definitions.specs.{Attestation.{CallItem, KeyRead, MetadataRead, KeptRead, KeptWrite, DecisionWrite, DerivedKeyWrite, RegionRead, InnerDigestWrite, MacWrite, ReturnRead, call_item, item_pc, is_return, word_passed}, CpuRegister.{pc_of, is_asleep}, CpuState.{CpuState, Boundary, Executing, Entering, cpu_pc, with_value, completion_or}, NextAccess.{Next, Asks, Completes}, MonitorRule.{in_rom, was_inside}}
 use Rattle.device_trace.specs.Progress.{Progress, Held, Runs, InCall, next_pc_of, boundary_kind, kind_of, progress_from_boundary, progress_within, after_return, call_after, cpu_state_after, next_progress}

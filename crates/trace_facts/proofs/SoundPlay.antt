@@ -1,11 +1,9 @@
 -- The progress is sound after every play.
-use Rattle.std.proofs.{Common.{◌≡◌, Bool, [], ◌∷◌, None, true, false, sym, ◌∙◌}, lemmas.List.Elements.{All-nil, All-cons}}
+use Rattle.std.{proofs.{Common.{◌≡◌, Bool, [], ◌∷◌, None, true, false, sym, ◌∙◌}, lemmas.List.Elements.{All-nil, All-cons}}, specs.Prelude.All}
 use Rattle.part_definitions.specs.{FirstRule.first_rule, MonitorRule.in_rom}
 use Rattle.device_types.specs.{ExecFlag.last_pc, declared.{bus_record.BusRecord.BusRecord, kind.Kind.{Kind, TheVariants.Rom}}}
 use Rattle.device_trace.specs.{Trace.{Play, logs_after, trace}, Logs.{Logs, vector_of, step_progress, with_events}, Signals.{step_kind, signals_at, signals_of}, Start.Start, Step.{record_of, next_record}, Progress.{Progress, Held, Runs, InCall, next_pc_of}}
-use Rattle.trace_facts.proofs.{Sound.{IsSound, IsWithin, progress_within-right, next_progress-sound}, BreaksNoRule.first_rule-none, EachPlay.{HoldsAfter, logs_after-kept}}
-use Rattle.std.specs.Prelude.{All}
-use Rattle.trace_facts.specs.Naming.{RunsRomInCall}
+use Rattle.trace_facts.{proofs.{Sound.{IsSound, IsWithin, progress_within-right, next_progress-sound}, BreaksNoRule.first_rule-none, EachPlay.{HoldsAfter, logs_after-kept}}, specs.Naming.RunsRomInCall}
 
 -- of the logs of a play
 abbrev pub LogsAreSound : Logs → Type 0

@@ -1,8 +1,5 @@
 -- The binary digits of a number.
-use Rattle.std.proofs.Common.{zero, suc, ◌≡◌, ◌∙◌, ℕ, ◌+◌, ◌/◌, ◌%◌, ◌^◌, ◌<◌, ◌≤◌, Bool, true, false, List, [], ◌∷◌, ◌++◌, ⊎_elim, append_assoc, length, length-append, eq-eqb, ne_eqb, refl, sym, ap, arith}
-use Rattle.std.specs.Prelude.{◌==◌}
-use Rattle.std.specs.Fmt.{digit_glyph, digits, digits_onto}
-use Rattle.std.proofs.lemmas.Bool.{cases_lt}
+use Rattle.std.{proofs.{Common.{zero, suc, ◌≡◌, ◌∙◌, ℕ, ◌+◌, ◌/◌, ◌%◌, ◌^◌, ◌<◌, ◌≤◌, Bool, true, false, List, [], ◌∷◌, ◌++◌, ⊎_elim, append_assoc, length, length-append, eq-eqb, ne_eqb, refl, sym, ap, arith}, lemmas.Bool.cases_lt}, specs.{Prelude.◌==◌, Fmt.{digit_glyph, digits, digits_onto}}}
 use Rattle.printed_lines.specs.Line.{flag_digit}
 
 abbrev spell : ℕ → ℕ → List ℕ → List ℕ

@@ -1,13 +1,8 @@
 -- How a reader takes the changes of a time.
-use Rattle.std.proofs.Common.{suc, ◌≡◌, ◌∙◌, ℕ, ◌+◌, Bool, true, false, List, [], ◌∷◌, ◌++◌, Option, Some, append_assoc, eqb-true, flat_map, length, option_map, refl, sym, ap, subst, arith, rules}
-use Rattle.std.specs.Prelude.{◌==◌, ◌&&◌, codes, if◌then◌else◌}
-use Rattle.std.specs.Bool.{MatchBool}
-use Rattle.std.specs.Fmt.{digits}
-use Rattle.std.proofs.lemmas.Bool.{and_parts}
+use Rattle.std.{proofs.{Common.{suc, ◌≡◌, ◌∙◌, ℕ, ◌+◌, Bool, true, false, List, [], ◌∷◌, ◌++◌, Option, Some, append_assoc, eqb-true, flat_map, length, option_map, refl, sym, ap, subst, arith, rules}, lemmas.Bool.and_parts}, specs.{Prelude.{◌==◌, ◌&&◌, codes, if◌then◌else◌}, Bool.MatchBool, Fmt.digits}}
 use Rattle.named_value.specs.Names.{is_plain}
-use Rattle.trace_files.specs.{declared.wire.Wire.Wire, Wire.{wires, wire_code}, WaveText.{change_text, digits_text, is_bit}, WaveReader.{WavePoint, with_change, with_value}}
+use Rattle.trace_files.{specs.{declared.wire.Wire.Wire, Wire.{wires, wire_code}, WaveText.{change_text, digits_text, is_bit}, WaveReader.{WavePoint, with_change, with_value}}, proofs.{Fitting.{IsShort, Suits}, Reading.{Reads, plain_value, reads_both, reads_line, reads_nothing, value_in_digits}, Stages.{are_numbered, kept, replaced, staged}}}
 use Rattle.word_arith.specs.Number.{bit_of}
-use Rattle.trace_files.proofs.{Fitting.{IsShort, Suits}, Reading.{Reads, plain_value, reads_both, reads_line, reads_nothing, value_in_digits}, Stages.{are_numbered, kept, replaced, staged}}
 
 plain-code : (wire : Wire) → is_plain (wire_code wire) ≡ true
 plain-code = search rules

@@ -1,9 +1,5 @@
 -- What clears the flag, in the executable region and outside it.
-use Rattle.std.proofs.Common.{arith, ◌≡◌, ℕ, Bool, true, false, List, [], ◌∷◌, Option, Some, None, refl, ap, sym, ◌∙◌, not}
-use Rattle.std.specs.Prelude.{◌==◌, ◌&&◌, ◌||◌, ◌++◌, is_some, option_to_list}
-use Rattle.std.specs.List.{list_any}
-use Rattle.std.proofs.Math.Bool.{or-false}
-use Rattle.std.proofs.lemmas.List.Folds.{list_any-append}
+use Rattle.std.{proofs.{Common.{arith, ◌≡◌, ℕ, Bool, true, false, List, [], ◌∷◌, Option, Some, None, refl, ap, sym, ◌∙◌, not}, Math.Bool.or-false, lemmas.List.Folds.list_any-append}, specs.{Prelude.{◌==◌, ◌&&◌, ◌||◌, ◌++◌, is_some, option_to_list}, List.list_any}}
 use Rattle.device_types.specs.{declared.{access.Access.{Access, TheVariants.{Fetch, Read, Write}}, region.Region.Region}, Access.some_writes, Map.{touches, some_touches, metadata_region}, Bounds.{executable_region, output_region}, ExecFlag.{SeenRecord, clears, runs_inside, ran_inside, ran_at, fetches_outside, writes_to}}
 use Rattle.trace_files.specs.Disturbance.{disturbs_run, disturbs_rest}
 

@@ -1,7 +1,5 @@
 -- How the flag changes at a record.
-use Rattle.std.proofs.Common.{◌≡◌, ◌&&◌, ◌||◌, Bool, true, false, not, List, [], ◌∷◌, sym, ◌∙◌, if◌then◌else◌}
-use Rattle.std.proofs.Math.Bool.{and-true, and-false, or_comm}
-use Rattle.std.specs.List.{list_any}
+use Rattle.std.{proofs.{Common.{◌≡◌, ◌&&◌, ◌||◌, Bool, true, false, not, List, [], ◌∷◌, sym, ◌∙◌, if◌then◌else◌}, Math.Bool.{and-true, and-false, or_comm}}, specs.List.list_any}
 use Rattle.device_types.specs.ExecFlag.{SeenRecord, exec, clears, starts_run, last_pc, records_since}
 
 pub exec_cons : (now : SeenRecord) (before : List SeenRecord)

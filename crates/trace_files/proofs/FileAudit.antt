@@ -1,6 +1,5 @@
 -- The lines of a trace file, one after the other.
-use Rattle.std.proofs.Common.{arith, ◌≡◌, ◌∙◌, ◌==◌, ap, sym, ℕ, List, [], ◌∷◌, length, true, false, None, Result, Ok, Err, refl}
-use Rattle.std.proofs.lemmas.Bool.Decides.{nat_tests}
+use Rattle.std.proofs.{Common.{arith, ◌≡◌, ◌∙◌, ◌==◌, ap, sym, ℕ, List, [], ◌∷◌, length, true, false, None, Result, Ok, Err, refl}, lemmas.Bool.Decides.nat_tests}
 use Rattle.text_scan.specs.{declared.fault_at.FaultAt.FaultAt, Reader.in_line, Word.words_of}
 use Rattle.trace_files.specs.{LineGrammar.{trace_line_of, is_empty, lines_after}, declared.{trace_line.TraceLine.TraceLine, audit.Audit.Audit, audited.Audited.Audited}, AuditText.{AuditStandsFor, audit_of_lines}, Offence.first_offence}
 

@@ -1,6 +1,5 @@
 -- What a wire of a step shows has as many bits as a reader takes.
-use Rattle.std.proofs.Common.{◌≡◌, ℕ, ◌^◌, ◌<◌, Bool, Option, Some, None, IfSome, refl, arith, rules}
-use Rattle.std.specs.Bool.{MatchBool}
+use Rattle.std.{proofs.Common.{◌≡◌, ℕ, ◌^◌, ◌<◌, Bool, Option, Some, None, IfSome, refl, arith, rules}, specs.Bool.MatchBool}
 use Rattle.word_arith.specs.{declared.size.Size.TheVariants.{Byte, Word}, Number.bit_of}
 use Rattle.device_types.specs.{declared.{access.Access.{Access, TheVariants.{Fetch, Read, Write}}, kind.Kind.Kind, rule.Rule.Rule}, Kind.kind_name}
 use Rattle.trace_files.specs.{LineReadBack.IsAllowed, declared.{sample.Sample.Sample, wire.Wire.{Wire, TheVariants.{Pc, StepKind, Irq, Asked, BrokenRule, CpuOp, CpuAddress, CpuData, FetchWord, DmaOp, DmaAddress, DmaData, ErMin, ErMax, OrMin, OrMax, Exec, Sp, Sr, R4, R5, R6, R7, R8, R9, R10, R11, R12, R13, R14, R15, Aux, TimerFlag, Pins, Sent, Received}}}, WaveReadBack.IsShowable, WireValue.{access_data, access_letter, access_place, of_access, rule_number, text_number, wire_value}, WaveText.is_bit}

@@ -1,15 +1,12 @@
 -- The text of a line is read as that line.
-use Rattle.std.proofs.{Common.{◌≡◌, ◌∙◌, ℕ, ◌%◌, ◌^◌, ◌<◌, Bool, true, false, List, [], ◌∷◌, ◌++◌, Option, Some, None, IfSome, Ok, drop, refl, ap, arith, rules, suc, ◌+◌, ◌≤◌, length, append-nil, append_assoc, sym, ◌↔◌}, lemmas.{Bool.{and_from, eq-eqb}, List.Folds.list_all-append, Slice.Eq.bytes_eq-Decides}}
-use Rattle.std.specs.{Prelude.{◌==◌, codes, if◌then◌else◌}, Fmt.decimal, List.list_all, Str.Lines.lines}
+use Rattle.std.{proofs.{Common.{◌≡◌, ◌∙◌, ℕ, ◌%◌, ◌^◌, ◌<◌, Bool, true, false, List, [], ◌∷◌, ◌++◌, Option, Some, None, IfSome, Ok, drop, refl, ap, arith, rules, suc, ◌+◌, ◌≤◌, length, append-nil, append_assoc, sym, ◌↔◌}, lemmas.{Bool.{and_from, eq-eqb}, List.Folds.list_all-append, Slice.Eq.bytes_eq-Decides}}, specs.{Prelude.{◌==◌, codes, if◌then◌else◌}, Fmt.decimal, List.list_all, Str.Lines.lines}}
 use Rattle.hex.specs.Hex.{encode_with}
 use Rattle.word_arith.specs.declared.size.Size.TheVariants.{Byte, Word}
 use Rattle.device_types.specs.{declared.{access.Access.{Access, TheVariants.{Fetch, Read, Write}}, bounds.Bounds.Bounds, kind.Kind.Kind, rule.Rule.Rule}, Kind.{kind_name, kind_names}, Bounds.AreWords}
 use Rattle.printed_lines.specs.Line.{byte_digits, word_digits, flag_digit}
-use Rattle.line_buffer.specs.LineLaw.{ArePieces}
-use Rattle.line_buffer.proofs.PieceLines.{first_line, plain-flag, plain-byte, plain-word}
-use Rattle.text_scan.specs.{WordValue.{number_of, place_of, value_of}, LineFold.numbered_lines}
+use Rattle.line_buffer.{specs.LineLaw.ArePieces, proofs.PieceLines.{first_line, plain-flag, plain-byte, plain-word}}
+use Rattle.text_scan.{specs.{WordValue.{number_of, place_of, value_of}, LineFold.numbered_lines}, proofs.{NamedWord.value_of-name, PlainWords.{one_byte, decimal_of-decimal, hex_bytes_of-digits, hex_word_of-digits, plain-decimal}}}
 use Rattle.named_value.specs.Names.{value_named, IsPlainWord, is_plain}
-use Rattle.text_scan.proofs.{NamedWord.value_of-name, PlainWords.{one_byte, decimal_of-decimal, hex_bytes_of-digits, hex_word_of-digits, plain-decimal}}
 use Rattle.trace_files.specs.{declared.{trace_line.TraceLine.TraceLine, offence.Offence.{Offence, TheVariants.{RuleIs, ExecIs}}}, LineText.{access_word, rule_word, line_pieces, trace_line, file_text}, LineGrammar.{LAST_TRACED_STEP, fetch_in, read_in, write_in, access_in, rule_in, named_of, flag_of, bounds_of, fields_of, trace_line_of, lines_after, trace_of}, LineReadBack.{IsAllowed, IsPrintable, LinesReadBack, ArePrintable, FilesReadBack}, Clean.{right_rule, right_exec, IsRight, IsClean}, Offence.{is_same_rule, is_same_flag, offence_of, or_first, first_offence, CleanHasNoOffence}}
 
 -- the value of each word

@@ -1,12 +1,5 @@
 -- The other wires apart from those of the line.
-use Rattle.std.proofs.Common.{◌≡◌, ◌∙◌, ℕ, ◌+◌, ◌<◌, ◌++◌, ◌||◌, Bool, false, List, [], ◌∷◌, Some, Option, eq-eqb, flat_map, take, drop, get_or, refl, sym, ap, arith}
-use Rattle.std.specs.Prelude.{not, slice_index, if◌then◌else◌}
-use Rattle.std.specs.List.{list_any}
-use Rattle.std.proofs.lemmas.Bool.{or_parts}
-use Rattle.std.proofs.lemmas.Grind.{get_or_after_one}
-use Rattle.std.proofs.lemmas.List.{get_or-take}
-use Rattle.std.proofs.lemmas.List.Folds.{list_any-append}
-use Rattle.std.proofs.lemmas.List.Concat.{flat_map-append}
+use Rattle.std.{proofs.{Common.{◌≡◌, ◌∙◌, ℕ, ◌+◌, ◌<◌, ◌++◌, ◌||◌, Bool, false, List, [], ◌∷◌, Some, Option, eq-eqb, flat_map, take, drop, get_or, refl, sym, ap, arith}, lemmas.{Bool.or_parts, Grind.get_or_after_one, List.{get_or-take, Folds.list_any-append, Concat.flat_map-append}}}, specs.{Prelude.{not, slice_index, if◌then◌else◌}, List.list_any}}
 use Rattle.trace_files.specs.{declared.{sample.Sample.Sample, wire.Wire.Wire}, Wire.{line_wires, other_wires, register_wires, wires}, WireValue.{is_same_value, register_value, wire_value}, WaveText.{change_of, change_text, is_any_told, is_told, wires_text}}
 
 pub text_in_two : (last : Option Sample) (now : Sample)

@@ -1,22 +1,8 @@
 -- How a reader takes a text, line by line.
-use Rattle.std.proofs.Common.{◌≡◌, ◌∙◌, ℕ, ◌+◌, ◌*◌, ◌^◌, ◌<◌, ◌≤◌, true, false, List, [], ◌∷◌, ◌++◌, Option, Some, None, Result, ⊎_elim, append_assoc, length, ne_eqb, le-leb, lt-ltb, refl, ap, subst, arith}
-use Rattle.std.specs.Prelude.{nat_le, nat_lt, codes}
-use Rattle.std.specs.Char.{digit_value}
-use Rattle.std.specs.Fmt.{decimal, digits}
-use Rattle.std.specs.List.{join_with_byte, list_all}
-use Rattle.std.specs.Result.{result_ok}
-use Rattle.std.specs.Str.{bytes_eq}
-use Rattle.std.specs.Str.Lines.{lines}
-use Rattle.std.specs.Str.Parse.{AllDigits, digits_value_after}
-use Rattle.std.proofs.lemmas.Bool.{and_from, cases_lt}
-use Rattle.std.proofs.lemmas.Fmt.{digits_is_IsNumeral}
-use Rattle.std.proofs.lemmas.Str.{digit_value_digit}
-use Rattle.std.proofs.lemmas.Str.Parse.{digit_from_value}
-use Rattle.text_scan.specs.declared.fault_kind.FaultKind.{FaultKind}
-use Rattle.text_scan.proofs.{FirstLine.lines-line, PlainWords.{ArePlain, decimal_of-decimal, plain-decimal, printed-join, printed_bounds, words_of-join}}
+use Rattle.std.{proofs.{Common.{◌≡◌, ◌∙◌, ℕ, ◌+◌, ◌*◌, ◌^◌, ◌<◌, ◌≤◌, true, false, List, [], ◌∷◌, ◌++◌, Option, Some, None, Result, ⊎_elim, append_assoc, length, ne_eqb, le-leb, lt-ltb, refl, ap, subst, arith}, lemmas.{Bool.{and_from, cases_lt}, Fmt.digits_is_IsNumeral, Str.{digit_value_digit, Parse.digit_from_value}}}, specs.{Prelude.{nat_le, nat_lt, codes}, Char.digit_value, Fmt.{decimal, digits}, List.{join_with_byte, list_all}, Result.result_ok, Str.{bytes_eq, Lines.lines, Parse.{AllDigits, digits_value_after}}}}
+use Rattle.text_scan.{specs.declared.fault_kind.FaultKind.FaultKind, proofs.{FirstLine.lines-line, PlainWords.{ArePlain, decimal_of-decimal, plain-decimal, printed-join, printed_bounds, words_of-join}}}
 use Rattle.named_value.specs.Names.{is_plain}
-use Rattle.trace_files.specs.{WaveText.{digits_text, time_text}, WaveReader.{WavePoint, after_words, and_then, last_values, number_after, points_after, value_in, with_time}}
-use Rattle.trace_files.proofs.Fitting.{IsShort}
+use Rattle.trace_files.{specs.{WaveText.{digits_text, time_text}, WaveReader.{WavePoint, after_words, and_then, last_values, number_after, points_after, value_in, with_time}}, proofs.Fitting.IsShort}
 
 -- after these lines of text the points are others
 abbrev pub Reads : List ℕ → List WavePoint → List WavePoint → Type 0

@@ -1,6 +1,5 @@
 -- Each line of a play is right.
-use Rattle.std.proofs.{Common.{◌≡◌, ℕ, Bool, List, [], ◌∷◌, Option, map, refl, ap, sym, ◌∙◌, arith, true, false, not, Some, None}, lemmas.Bool.{and_parts, eqb-true, cond-false, Decides.nat_tests}}
-use Rattle.std.specs.{Prelude.◌&&◌, Option.option_or}
+use Rattle.std.{proofs.{Common.{◌≡◌, ℕ, Bool, List, [], ◌∷◌, Option, map, refl, ap, sym, ◌∙◌, arith, true, false, not, Some, None}, lemmas.Bool.{and_parts, eqb-true, cond-false, Decides.nat_tests}}, specs.{Prelude.◌&&◌, Option.option_or}}
 use Rattle.device_types.specs.{declared.{bounds.Bounds.Bounds, event.Event.Event, rule.Rule.{Rule, TheVariants.{X0, I1}}, signals.Signals.Signals, access.Access.{Access, TheVariants.{Fetch, Read, Write}}}, Kind.is_cpu, ExecFlag.{exec, fetches_at, last_pc, SeenRecord, clears, starts_run}, Access.{some_writes, without_number}, Map.{touches, some_touches, key_region, stack_region}}
 use Rattle.part_definitions.specs.{FirstRule.{first_rule, breaks_x0, breaks_i1, rule_where}, MonitorRule.{in_rom, key_rule, atomicity_rule}}
 use Rattle.device_trace.specs.{Trace.{Play, next_logs, logs_after}, Blank.{blank_record, touches_secrets, blank_access, blank_value}, Logs.{Logs, exec_of, logged_bounds, with_events, with_record}, Progress.last_registers, Signals.{value_read, signals_of}, Start.Start, Step.{asks_reset, dma_value_read, record_from, record_of, next_record, access_recorded}}

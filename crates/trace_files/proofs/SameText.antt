@@ -1,8 +1,7 @@
 -- What trace and waveform show without the key, and with two keys whose released words agree.
 use Rattle.std.proofs.{Common.{◌≡◌, ◌++◌, refl, ap, sym, ◌∙◌, ℕ, List, [], ◌∷◌, Option, arith, Bool, Some, None}, lemmas.Bool.Decides.nat_tests}
 use Rattle.device_trace.specs.{Trace.{Play, released_words, next_logs, logs_after}, Start.Start, Blank.{blank_access, blank_value, blank_record, touches_secrets}, Logs.{Logs, exec_of, logged_bounds, with_events}, Peripherals.with_all_events, Step.{next_record, asks_reset, next_signals}, Signals.{word_fetched, signals_at, signals_of}}
-use Rattle.key_isolation.specs.Keyless.{ReleaseAlike, SameButKey}
-use Rattle.key_isolation.proofs.{TwoKeys.one_keyless, Hiding.{open_start, hide, flags_of-hide, last_registers-hide, logged_bounds-hide}, Induction.{play_hides, releases_before}, LogsBlank.{step_hides, byte_sent_by-blank}, Bytes.same_if, FlagBlank.{exec-blank, blank_access-twice, blank_value-twice}, Reading.value_read-hide, SignalShape.signals_of-hide}
+use Rattle.key_isolation.{specs.Keyless.{ReleaseAlike, SameButKey}, proofs.{TwoKeys.one_keyless, Hiding.{open_start, hide, flags_of-hide, last_registers-hide, logged_bounds-hide}, Induction.{play_hides, releases_before}, LogsBlank.{step_hides, byte_sent_by-blank}, Bytes.same_if, FlagBlank.{exec-blank, blank_access-twice, blank_value-twice}, Reading.value_read-hide, SignalShape.signals_of-hide}}
 use Rattle.trace_files.specs.{KeylessLines.{HasKeylessLines, IsKeyless}, TraceText.{trace_lines, next_line, line_with, word_shown}, WaveSamples.{wave_samples, byte_received_by, next_ports, play_state, ports_with, state_of}}
 use Rattle.device_types.specs.{declared.{access.Access.{Access, TheVariants.{Fetch, Read, Write}}, bus_record.BusRecord.BusRecord, event.Event.Event, rule.Rule.Rule}, ExecFlag.last_pc, Access.without_number}
 use Rattle.part_definitions.specs.{Pins.pins_word, Timer.timer_flag}

@@ -1,7 +1,5 @@
 -- Spans of addresses and words.
-use Rattle.std.proofs.Common.{arith, ◌≡◌, ◌+◌, ◌%◌, ℕ}
-use Rattle.std.specs.Prelude.{◌&&◌, ◌||◌, ◌==◌, nat_le, nat_lt, not}
-use Rattle.std.proofs.lemmas.Bool.Decides.{nat_tests}
+use Rattle.std.{proofs.{Common.{arith, ◌≡◌, ◌+◌, ◌%◌, ℕ}, lemmas.Bool.Decides.nat_tests}, specs.Prelude.{◌&&◌, ◌||◌, ◌==◌, nat_le, nat_lt, not}}
 use Rattle.device_types.specs.{Bounds.is_valid_region, Map.metadata_region}
 
 pub meets_word : (first last place : ℕ)

@@ -1,7 +1,6 @@
 -- The values of the wires while a reader takes the changes of a time: those of the wires whose code
 -- is below one are new, and the others old.
-use Rattle.std.proofs.Common.{suc, ◌≡◌, ℕ, Bool, true, List, [], ◌∷◌, map, Option, Some, refl}
-use Rattle.std.specs.Prelude.{◌==◌, ◌&&◌, nat_lt, if◌then◌else◌}
+use Rattle.std.{proofs.Common.{suc, ◌≡◌, ℕ, Bool, true, List, [], ◌∷◌, map, Option, Some, refl}, specs.Prelude.{◌==◌, ◌&&◌, nat_lt, if◌then◌else◌}}
 use Rattle.trace_files.specs.{declared.wire.Wire.{Wire, TheVariants.{Pc, StepKind, Irq, Asked, BrokenRule, CpuOp, CpuAddress, CpuData, FetchWord, DmaOp, DmaAddress, DmaData, ErMin, ErMax, OrMin, OrMax, Exec, Sp, Sr, R4, R5, R6, R7, R8, R9, R10, R11, R12, R13, R14, R15, Aux, TimerFlag, Pins, Sent, Received}}, Wire.{wires, wire_code}, WaveReader.with_value}
 
 abbrev pub stage : (Wire → Option ℕ) → (Wire → Option ℕ) → ℕ → Wire → Option ℕ

@@ -1,11 +1,6 @@
 -- What a reader has after the steps of a waveform.
-use Rattle.std.proofs.Common.{suc, ◌≡◌, ◌∙◌, ℕ, ◌^◌, ◌<◌, ◌≤◌, Bool, true, false, List, [], ◌∷◌, ◌++◌, map, Option, Some, None, length, eqb-true, le-leb, refl, sym, ap, subst, true≢false, ⊎_elim, arith}
-use Rattle.std.specs.Prelude.{codes, replicate, slice_index, if◌then◌else◌}
-use Rattle.std.specs.List.{list_any}
-use Rattle.std.proofs.lemmas.Bool.{cases_lt, false≢true, lt-leb, not-false, or_parts}
-use Rattle.std.proofs.lemmas.List.{get_or-replicate, get_or_past}
-use Rattle.trace_files.specs.{declared.{sample.Sample.Sample, wire.Wire.Wire}, Wire.wires, WireValue.{is_same_value, wire_value}, WaveText.{changes_text, dump_text, end_text, is_any_told, is_told, last_shown, shown_after, state_after, step_text, steps_text, time_text, told_text, wires_text}, WaveReader.{WavePoint, last_values, values_at}, WaveReadBack.{AreShowable, IsShowable, ShowEnd, ShowSteps, values_of}}
-use Rattle.trace_files.proofs.{Fitting.suits, Reading.{Reads, point_at, reads_both, reads_dumpvars, reads_end, reads_nothing, reads_time}, Stages.numbered_wires, Changes.reads_changes}
+use Rattle.std.{proofs.{Common.{suc, ◌≡◌, ◌∙◌, ℕ, ◌^◌, ◌<◌, ◌≤◌, Bool, true, false, List, [], ◌∷◌, ◌++◌, map, Option, Some, None, length, eqb-true, le-leb, refl, sym, ap, subst, true≢false, ⊎_elim, arith}, lemmas.{Bool.{cases_lt, false≢true, lt-leb, not-false, or_parts}, List.{get_or-replicate, get_or_past}}}, specs.{Prelude.{codes, replicate, slice_index, if◌then◌else◌}, List.list_any}}
+use Rattle.trace_files.{specs.{declared.{sample.Sample.Sample, wire.Wire.Wire}, Wire.wires, WireValue.{is_same_value, wire_value}, WaveText.{changes_text, dump_text, end_text, is_any_told, is_told, last_shown, shown_after, state_after, step_text, steps_text, time_text, told_text, wires_text}, WaveReader.{WavePoint, last_values, values_at}, WaveReadBack.{AreShowable, IsShowable, ShowEnd, ShowSteps, values_of}}, proofs.{Fitting.suits, Reading.{Reads, point_at, reads_both, reads_dumpvars, reads_end, reads_nothing, reads_time}, Stages.numbered_wires, Changes.reads_changes}}
 
 -- the values of a time
 

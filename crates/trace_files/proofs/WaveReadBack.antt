@@ -1,12 +1,6 @@
 -- A waveform is read as the steps that it was written of.
-use Rattle.std.proofs.Common.{◌≡◌, ◌∙◌, ◌^◌, ◌<◌, ℕ, Bool, List, [], ◌++◌, Some, None, append-nil, append_assoc, length, take, drop, refl, sym, ap}
-use Rattle.std.specs.Prelude.{if◌then◌else◌}
-use Rattle.std.specs.Str.{bytes_eq}
-use Rattle.std.specs.Str.Lines.{lines}
-use Rattle.std.proofs.Math.Seq.{drop-append_seam, take-append_seam}
-use Rattle.std.proofs.lemmas.Slice.Eq.{bytes_eq-Decides}
-use Rattle.trace_files.specs.{declared.sample.Sample.Sample, WaveText.{end_text, header, steps_text}, WaveReader.{points_after, points_of}, WaveReadBack.{AreShowable, WavesReadBack}}
-use Rattle.trace_files.proofs.{Reading.reads_both, Steps.{all_points, points_for, reads_ends, reads_steps, shows_end, shows_steps}}
+use Rattle.std.{proofs.{Common.{◌≡◌, ◌∙◌, ◌^◌, ◌<◌, ℕ, Bool, List, [], ◌++◌, Some, None, append-nil, append_assoc, length, take, drop, refl, sym, ap}, Math.Seq.{drop-append_seam, take-append_seam}, lemmas.Slice.Eq.bytes_eq-Decides}, specs.{Prelude.if◌then◌else◌, Str.{bytes_eq, Lines.lines}}}
+use Rattle.trace_files.{specs.{declared.sample.Sample.Sample, WaveText.{end_text, header, steps_text}, WaveReader.{points_after, points_of}, WaveReadBack.{AreShowable, WavesReadBack}}, proofs.{Reading.reads_both, Steps.{all_points, points_for, reads_ends, reads_steps, shows_end, shows_steps}}}
 
 -- a text that begins as it should is read from there on
 cut : (head rest : List ℕ)

@@ -1,6 +1,5 @@
 -- What disturbs a run of the executable region: of a step in it, and of a step outside it.
-use Rattle.std.specs.Prelude.{◌&&◌, ◌||◌, Bool, not, Option, is_some, option_to_list}
-use Rattle.std.specs.List.{list_any}
+use Rattle.std.specs.{Prelude.{◌&&◌, ◌||◌, Bool, not, Option, is_some, option_to_list}, List.list_any}
 use Rattle.device_types.specs.{declared.{access.Access.Access, region.Region.Region}, Access.some_writes, Map.{some_touches, metadata_region}, ExecFlag.fetches_outside}
 
 abbrev pub disturbs_run : Region → Option Access → Option Access

@@ -1,6 +1,5 @@
 -- The text of a trace line: `t S K P C D I X W V U B1 B2 B3 B4 E R`.
-use Rattle.std.specs.Prelude.{◌++◌, ℕ, List, [], ◌∷◌, length, Option, Some, None, codes}
-use Rattle.std.specs.Fmt.{decimal}
+use Rattle.std.specs.{Prelude.{◌++◌, ℕ, List, [], ◌∷◌, length, Option, Some, None, codes}, Fmt.decimal}
 use Rattle.word_arith.specs.declared.size.Size.TheVariants.{Byte, Word}
 use Rattle.device_types.specs.{declared.{access.Access.{Access, TheVariants.{Fetch, Read, Write}}, rule.Rule.Rule}, Kind.kind_name, Rule.rule_name}
 use Rattle.printed_lines.specs.Line.{byte_digits, word_digits, flag_digit, line_of}

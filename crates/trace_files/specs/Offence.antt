@@ -1,6 +1,5 @@
 -- The first line of a list that is not right, and what would be right there.
-use Rattle.std.specs.Prelude.{◌≡◌, ◌↔◌, ℕ, Bool, true, false, not, List, [], ◌∷◌, length, Option, Some, None, if◌then◌else◌}
-use Rattle.std.specs.Str.{bytes_eq}
+use Rattle.std.specs.{Prelude.{◌≡◌, ◌↔◌, ℕ, Bool, true, false, not, List, [], ◌∷◌, length, Option, Some, None, if◌then◌else◌}, Str.bytes_eq}
 use Rattle.device_types.specs.declared.rule.Rule.{Rule}
 use Rattle.trace_files.specs.{LineText.rule_word, declared.{trace_line.TraceLine.TraceLine, offence.Offence.{Offence, TheVariants.{RuleIs, ExecIs}}}, Clean.{right_rule, right_exec, IsClean}}
 

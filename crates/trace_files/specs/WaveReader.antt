@@ -1,9 +1,5 @@
 -- What a reader finds in a waveform of this form: the values of the wires at each time.
-use Rattle.std.specs.Prelude.{◌==◌, ◌+◌, ◌*◌, ℕ, List, [], ◌∷◌, length, map, take, drop, nat_le, Option, Some, None, if◌then◌else◌, codes}
-use Rattle.std.specs.Str.{bytes_eq}
-use Rattle.std.specs.Str.Lines.{lines}
-use Rattle.std.specs.Option.{option_map}
-use Rattle.std.specs.Result.{result_ok}
+use Rattle.std.specs.{Prelude.{◌==◌, ◌+◌, ◌*◌, ℕ, List, [], ◌∷◌, length, map, take, drop, nat_le, Option, Some, None, if◌then◌else◌, codes}, Str.{bytes_eq, Lines.lines}, Option.option_map, Result.result_ok}
 use Rattle.text_scan.specs.{Decimal.decimal_of, Word.words_of}
 use Rattle.trace_files.specs.{declared.wire.Wire.Wire, Wire.{wires, wire_code}, WaveText.header}
 

@@ -1,5 +1,4 @@
-ghost use Rattle.std.specs.Prelude.{◌≡◌, ◌≤◌, ◌+◌, ◌++◌, true, false, length, None, Some, option_copied};
-ghost use Rattle.std.specs.Fmt.{digits};
+ghost use Rattle.std.specs.{Prelude.{◌≡◌, ◌≤◌, ◌+◌, ◌++◌, true, false, length, None, Some, option_copied}, Fmt.digits};
 ghost use Rattle.outside_edge.specs.Sink.{Puts, CountsFaults};
 ghost use Rattle.line_buffer.specs.declared.line_buffer.TheConstants.{ROOM};
 ghost use Rattle.trace_files.specs.{Wire.{flag_wires, other_wires, port_wires, register_wires, state_wires, wires}, WaveText.{change_of, change_text, changes_text, digits_text, dump_text, is_any_told, is_told, next_text, step_text, time_text, told_text, wires_text}};

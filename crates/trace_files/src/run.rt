@@ -1,6 +1,5 @@
-ghost use Rattle.std.specs.Prelude.{◌≡◌, ◌+◌, ◌%◌, ◌<◌, ◌==◌, is_some, option_to_list};
+ghost use Rattle.std.specs.{Prelude.{◌≡◌, ◌+◌, ◌%◌, ◌<◌, ◌==◌, is_some, option_to_list}, List.list_any};
 ghost use Rattle.device_types.specs.{Bounds.{is_disjoint, unwrapped_region, are_valid, is_valid_region, executable_region, output_region}, Map.metadata_region, ExecFlag.{clears, starts_run, ran_inside, ran_at, fetches_outside}};
-ghost use Rattle.std.specs.List.{list_any};
 ghost use Rattle.trace_files.specs.{Span.region_of, Disturbance.{disturbs_run, disturbs_rest}, Clean.seen_in};
 
 use crate::rule::is_write;

@@ -1,9 +1,7 @@
 -- Through a call the second flag stays as it is.
-use Rattle.std.proofs.{Common.{not, ◌≡◌, ◌&&◌, ℕ, Bool, true, false, List, [], ◌∷◌, inl, inr, Option, Some, None, map, refl, ap, sym, ◌∙◌, subst, is_some, arith}, lemmas.Bool.{cond_both, cond-true, and_left, and_right, and_parts, eq-eqb, or_from, Decides.nat_tests}}
-use Rattle.std.specs.{Prelude.{◌==◌, is_none}, List.list_any}
+use Rattle.std.{proofs.{Common.{not, ◌≡◌, ◌&&◌, ℕ, Bool, true, false, List, [], ◌∷◌, inl, inr, Option, Some, None, map, refl, ap, sym, ◌∙◌, subst, is_some, arith}, lemmas.Bool.{cond_both, cond-true, and_left, and_right, and_parts, eq-eqb, or_from, Decides.nat_tests}}, specs.{Prelude.{◌==◌, is_none}, List.list_any}}
 use Rattle.device_types.specs.{declared.{access.Access.Access, bus_record.BusRecord.BusRecord, kind.Kind.TheVariants.Rom}, Access.{some_writes, bytes_of}, Bounds.are_valid, Kind.is_rom, Map.{ROM_ENTRY, lies_in, touches, vector_region}, Report.ReportFields, ExecFlag.{SeenRecord, SeenHistory, last_pc, runs_inside, records_since}}
-use Rattle.part_definitions.specs.{MonitorRule.{leaves_stack_and_mac, in_rom, is_written_by_rom}, TrustedFlag.{aux, clears_aux, clears_f3, clears_f4, clears_f10}}
-use Rattle.part_definitions.proofs.CallItems.{first_pc}
+use Rattle.part_definitions.{specs.{MonitorRule.{leaves_stack_and_mac, in_rom, is_written_by_rom}, TrustedFlag.{aux, clears_aux, clears_f3, clears_f4, clears_f10}}, proofs.CallItems.first_pc}
 use Rattle.device_trace.specs.{Trace.{Play, logs_after, trace}, Blank.{blank_access, blank_record, blank_seen}, Logs.{Logs, aux_of, goes_on_in_call, records_until_call, logged_bounds, vector_of, step_progress, with_events, with_record}, Progress.{Progress, Held, Runs, InCall, next_pc_of}, Signals.step_kind, Start.Start, Step.{record_of, asks_reset, next_record}, Text.{last_report, last_decision, last_denial}, RegionRun.{TrustedInterrupts, TrustedRun}}
 use Rattle.mac_coverage.proofs.{ExecKept.{IsRomStep, rom_step-outside, rom_step-apart, rom_step-keeps_both, rom_step-starts_none, kept_flag}, Plays.{rom_kind, record_of-on_call}, Steps.{rom_step-of_call, OnCall, record_of-call, record_of-kind, record_of-pc, IsInRom}, ValidPlaces.none_elsewhere}
 use Rattle.proof_of_execution.proofs.Plays.{play_state, finished-run, report-run, denied_where}

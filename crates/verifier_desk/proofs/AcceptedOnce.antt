@@ -1,12 +1,5 @@
 -- No counter is requested twice or accepted twice, and what is accepted was requested.
-use Rattle.std.proofs.Common.{◌≡◌, ◌<◌, ◌≤◌, ◌+◌, ℕ, Bool, true, false, List, [], ◌∷◌, ◌++◌, Option, Some, None, Result, Ok, Err, refl, arith, sym, ⊎_elim, inl, inr}
-use Rattle.std.specs.Prelude.{if◌then◌else◌, nat_eq, not, IfSome}
-use Rattle.std.specs.List.{All, Contains}
-use Rattle.std.specs.Str.{bytes_eq}
-use Rattle.std.proofs.lemmas.Bool.{cases_Bool, eqb-true}
-use Rattle.std.proofs.lemmas.Bool.Decides.{nat_tests}
-use Rattle.std.proofs.lemmas.List.Elements.{All-nil, All-cons, Contains-append_right}
-use Rattle.std.proofs.lemmas.Slice.Eq.{bytes_eq-Decides}
+use Rattle.std.{proofs.{Common.{◌≡◌, ◌<◌, ◌≤◌, ◌+◌, ℕ, Bool, true, false, List, [], ◌∷◌, ◌++◌, Option, Some, None, Result, Ok, Err, refl, arith, sym, ⊎_elim, inl, inr}, lemmas.{Bool.{cases_Bool, eqb-true, Decides.nat_tests}, List.Elements.{All-nil, All-cons, Contains-append_right}, Slice.Eq.bytes_eq-Decides}}, specs.{Prelude.{if◌then◌else◌, nat_eq, not, IfSome}, List.{All, Contains}, Str.bytes_eq}}
 use Rattle.device_types.specs.Report.{ReportFields}
 use Rattle.text_scan.specs.declared.fault_kind.FaultKind.{FaultKind}
 use Rattle.report_text.specs.ReportFile.{report2_of}

@@ -1,15 +1,11 @@
 -- A report that is accepted answers the outstanding request.
-use Rattle.std.proofs.Common.{◌≡◌, ◌∙◌, ◌+◌, ℕ, Bool, true, false, List, [], ◌∷◌, Option, Some, None, Result, Ok, Err, refl, ap, sym}
-use Rattle.std.specs.Prelude.{if◌then◌else◌, nat_eq, not}
-use Rattle.std.specs.Str.{bytes_eq}
-use Rattle.std.proofs.lemmas.Slice.Eq.{bytes_eq-Decides}
+use Rattle.std.{proofs.{Common.{◌≡◌, ◌∙◌, ◌+◌, ℕ, Bool, true, false, List, [], ◌∷◌, Option, Some, None, Result, Ok, Err, refl, ap, sym}, lemmas.Slice.Eq.bytes_eq-Decides}, specs.{Prelude.{if◌then◌else◌, nat_eq, not}, Str.bytes_eq}}
 use Rattle.device_types.specs.Report.{ReportFields}
 use Rattle.text_scan.specs.declared.fault_kind.FaultKind.{FaultKind}
 use Rattle.report_text.specs.ReportFile.{report2_of}
 use Rattle.report_verifier.specs.{declared.{verdict.Verdict.{Verdict, TheVariants.{Accept, VersionDiffers, ChalDiffers}}, expect.Expect.Expect}, Judge.Judge, Verdict.{verdict_on, same_version}}
 use Rattle.desk_memory.specs.{declared.{answer.Answer.TheVariants.{Judged, Requested, Spent}, device_state.DeviceState.DeviceState}}
-use Rattle.verifier_desk.specs.{DeskLine.DeviceLine, DeviceReply.{LAST_COUNT, answer_to_ask, answer_to_give, desk_challenge, new_answer}, Law.{AnswersRequest, IsAnswered}}
-use Rattle.verifier_desk.proofs.AcceptedOnce.{accepted_count, new_by_number}
+use Rattle.verifier_desk.{specs.{DeskLine.DeviceLine, DeviceReply.{LAST_COUNT, answer_to_ask, answer_to_give, desk_challenge, new_answer}, Law.{AnswersRequest, IsAnswered}}, proofs.AcceptedOnce.{accepted_count, new_by_number}}
 
 chals_agree : (version chal : Bool) (later : Verdict)
     → (if not version then VersionDiffers else if not chal then ChalDiffers else later) ≡ Accept

@@ -1,7 +1,5 @@
 -- A desk after an error.
-use Rattle.std.proofs.Common.{◌≡◌, length, Result, Ok, Err, ap}
-use Rattle.std.specs.Prelude.{OnErr, vec_len}
-use Rattle.std.proofs.Math.Nat.{ℕ_set}
+use Rattle.std.{proofs.{Common.{◌≡◌, length, Result, Ok, Err, ap}, Math.Nat.ℕ_set}, specs.Prelude.{OnErr, vec_len}}
 use Rattle.verifier_desk.specs.declared.desk.Desk.{Desk}
 
 pub on_error : {V E : Type 0} {P : Type 0} (result : Result V E) → P → OnErr result P

@@ -1,17 +1,12 @@
 -- What a desk serves of a source.
-use Rattle.std.proofs.Common.{◌≡◌, ℕ, List, [], Some, Ok, Err, refl, inl, inr}
-use Rattle.std.specs.Prelude.{OnOk, Result}
-use Rattle.std.proofs.lemmas.List.{append-nil}
-use Rattle.outside_edge.specs.declared.sink.Sink as sink
-use Rattle.outside_edge.specs.declared.source.Source as source
-use Rattle.source_server.specs.{declared.{halt.Halt.Halt, lines.Lines.Lines, served.Served.{Served, TheVariants.Own}}, Lines.{Settles, promise_of}, Responder.Moment, Serving.Serves}
+use Rattle.std.{proofs.{Common.{◌≡◌, ℕ, List, [], Some, Ok, Err, refl, inl, inr}, lemmas.List.append-nil}, specs.Prelude.{OnOk, Result}}
+use Rattle.outside_edge.specs.declared.{sink.Sink.Ghosts as SinkGhosts, source.Source.Ghosts as SourceGhosts}
+use Rattle.source_server.{specs.{declared.{halt.Halt.Halt, lines.Lines.Lines, served.Served.{Served, TheVariants.Own}}, Lines.{Settles, promise_of}, Responder.Moment, Serving.Serves}, proofs.ServedPieces.{none_served, serves_as}}
 use Rattle.source_server.specs.declared.halt.Halt.TheVariants as halt
-use Rattle.source_server.proofs.ServedPieces.{none_served, serves_as}
-use Rattle.desk_memory.specs.declared.memory.Memory as memory
-use Rattle.verifier_desk.specs.{declared.{answer_fault.AnswerFault.{AnswerFault, TheVariants.Memory}, desk.Desk.Desk, desk_responder.DeskResponder.DeskResponder}, Desk.{DeskStandsFor, no_lines_of}, Replies.{DeskFields, lines_said}, Serving.{HasAnswered, Keeps, Outside, desk_promise}, Telling.{PutsHeld, lines_promise, outside_at}, Withheld.nothing_withheld}
-use Rattle.verifier_desk.proofs.{HeldReplies.{answered_of_told, stops_of_fails, told_anew}, MoreLines.grows_self}
+use Rattle.desk_memory.specs.declared.memory.Memory.{Ghosts as MemoryGhosts}
+use Rattle.verifier_desk.{specs.{declared.{answer_fault.AnswerFault.{AnswerFault, TheVariants.Memory}, desk.Desk.Desk, desk_responder.DeskResponder.DeskResponder}, Desk.{DeskStandsFor, no_lines_of}, Replies.{DeskFields, lines_said}, Serving.{HasAnswered, Keeps, Outside, desk_promise}, Telling.{PutsHeld, lines_promise, outside_at}, Withheld.nothing_withheld}, proofs.{HeldReplies.{answered_of_told, stops_of_fails, told_anew}, MoreLines.grows_self}}
 
-module _ {M W : Type 0} (m : memory.Ghosts M) (w : sink.Ghosts W) (first : Outside M W)
+module _ {M W : Type 0} (m : MemoryGhosts M) (w : SinkGhosts W) (first : Outside M W)
     (fields : DeskFields) where
   -- before the first byte no reply is due
   answered_none : Keeps m first.memory fields.entries
@@ -19,7 +14,7 @@ module _ {M W : Type 0} (m : memory.Ghosts M) (w : sink.Ghosts W) (first : Outsi
   answered_none keeps = record { put = λ before holds. rw (append-nil before) holds; keeps = keeps }
 
   -- there was no memory for a line or for replies
-  pub lacks_served : {R : Type 0} (r : source.Ghosts R) (source : R)
+  pub lacks_served : {R : Type 0} (r : SourceGhosts R) (source : R)
       → Keeps m first.memory fields.entries
       → Serves r (desk_promise m w fields first) source source first (Own Memory)
   lacks_served r source keeps =
@@ -68,7 +63,7 @@ module _ {M W : Type 0} (m : memory.Ghosts M) (w : sink.Ghosts W) (first : Outsi
         answered_none keeps,
       )
 
-  pub desk_served : {R : Type 0} (r : source.Ghosts R) (source source_new : R)
+  pub desk_served : {R : Type 0} (r : SourceGhosts R) (source source_new : R)
       (now : Moment (Lines (DeskResponder M)) W) (served : Served AnswerFault)
       → Serves r (promise_of (lines_promise m w (record { fields = fields; first = first })))
       source source_new now served

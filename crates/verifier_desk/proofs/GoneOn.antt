@@ -1,11 +1,8 @@
 -- A desk that is started with what another's memory has goes on as that one.
-use Rattle.std.proofs.Common.{◌≡◌, ◌∙◌, ℕ, List, [], ◌∷◌, ◌++◌, Option, Some, None, refl, ap, sym, append_assoc}
-use Rattle.std.specs.Prelude.{if◌then◌else◌}
-use Rattle.std.proofs.lemmas.List.{append-nil}
+use Rattle.std.{proofs.{Common.{◌≡◌, ◌∙◌, ℕ, List, [], ◌∷◌, ◌++◌, Option, Some, None, refl, ap, sym, append_assoc}, lemmas.List.append-nil}, specs.Prelude.if◌then◌else◌}
 use Rattle.report_verifier.specs.Judge.{Judge}
 use Rattle.desk_memory.specs.{declared.device_state.DeviceState.DeviceState, DeviceState.is_new, Entry.Note}
-use Rattle.verifier_desk.specs.{DeskLine.{DeskLine, TooLong, Silent, Foreign, Own, desk_line_of, DeviceLine}, DeviceKey.{DeviceKey, key_named}, DeviceReply.{answer_after, state_after, state_from}, Law.{IsGoneOn, started_after}, Noted.{entries_after, noted_of, with_noted}, Replies.{DeskFields, answer_line, judge_at, lines_said, mark_at, own_line, own_lines, replies, reply, reply_to, state_at}}
-use Rattle.verifier_desk.proofs.Remembered.{IsKnown, device_remembered, line_known}
+use Rattle.verifier_desk.{specs.{DeskLine.{DeskLine, TooLong, Silent, Foreign, Own, desk_line_of, DeviceLine}, DeviceKey.{DeviceKey, key_named}, DeviceReply.{answer_after, state_after, state_from}, Law.{IsGoneOn, started_after}, Noted.{entries_after, noted_of, with_noted}, Replies.{DeskFields, answer_line, judge_at, lines_said, mark_at, own_line, own_lines, replies, reply, reply_to, state_at}}, proofs.Remembered.{IsKnown, device_remembered, line_known}}
 
 pub own_lines-append : (devices : List DeviceKey) (name : List ℕ) (later earlier : List (List ℕ))
     → own_lines devices name (later ++ earlier)

@@ -1,19 +1,12 @@
 -- Replies that are held back, put, and more of them.
-use Rattle.std.proofs.Common.{◌≡◌, ◌∙◌, ◌++◌, ℕ, Bool, true, false, List, [], ◌∷◌, Option, Some, None, Ok, Err, length, take, drop, refl, ap, sym, subst, arith, append_assoc, ⊎_elim}
-use Rattle.std.specs.Prelude.{◌||◌, if◌then◌else◌, nat_lt, OnOk, Result}
-use Rattle.std.proofs.Math.Bool.{or-false}
-use Rattle.std.proofs.lemmas.List.{append-nil, take-append-drop}
+use Rattle.std.{proofs.{Common.{◌≡◌, ◌∙◌, ◌++◌, ℕ, Bool, true, false, List, [], ◌∷◌, Option, Some, None, Ok, Err, length, take, drop, refl, ap, sym, subst, arith, append_assoc, ⊎_elim}, Math.Bool.or-false, lemmas.List.{append-nil, take-append-drop}}, specs.Prelude.{◌||◌, if◌then◌else◌, nat_lt, OnOk, Result}}
 use Rattle.text_scan.specs.Word.{words_of}
-use Rattle.outside_edge.specs.{Sink.{Takes, TakesPrefix}, Calls.Rose}
-use Rattle.outside_edge.specs.declared.sink.Sink as sink
-use Rattle.outside_edge.proofs.{SinkLemmas.takes_both, Counts.rose_since}
+use Rattle.outside_edge.{specs.{Sink.{Takes, TakesPrefix}, Calls.Rose, declared.sink.Sink.Ghosts as SinkGhosts}, proofs.{SinkLemmas.takes_both, Counts.rose_since}}
 use Rattle.source_server.specs.{declared.halt.Halt.{Halt, TheVariants.{Write, Own}}, HeldLine.{LONGEST_LINE, short_line}}
-use Rattle.desk_memory.specs.declared.memory.Memory as memory
-use Rattle.desk_memory.specs.{declared.memory_fault.MemoryFault.MemoryFault, Entry.Entry, Kept.LeavesOr}
-use Rattle.verifier_desk.specs.{declared.{answer_fault.AnswerFault.{AnswerFault, TheVariants.{Memory, Unkept}}, desk.Desk.Desk}, Answering.{Answers, OnlyNotes}, Desk.DeskStandsFor, DeskLine.{DeskLine, TooLong, desk_line_of, desk_line_of_words}, DeviceKey.DeviceKey, Noted.{entries_after, noted_of, with_noted}, Replies.{DeskFields, lines_said, replies, reply, reply_to}, Reply.ReplyFields, Standing.with_said, Serving.{HasAnswered, HasFailed, HasPut, Keeps, Outside, StopsAt}, Telling.{FailsAt, Grows, PutsHeld, TellsLines, Told}, Withheld.{Withheld, nothing_withheld}}
-use Rattle.verifier_desk.proofs.MoreLines.{failed_since, fails_more, grows_more, put_of_more}
+use Rattle.desk_memory.specs.{declared.{memory.Memory.Ghosts as MemoryGhosts, memory_fault.MemoryFault.MemoryFault}, Entry.Entry, Kept.LeavesOr}
+use Rattle.verifier_desk.{specs.{declared.{answer_fault.AnswerFault.{AnswerFault, TheVariants.{Memory, Unkept}}, desk.Desk.Desk}, Answering.{Answers, OnlyNotes}, Desk.DeskStandsFor, DeskLine.{DeskLine, TooLong, desk_line_of, desk_line_of_words}, DeviceKey.DeviceKey, Noted.{entries_after, noted_of, with_noted}, Replies.{DeskFields, lines_said, replies, reply, reply_to}, Reply.ReplyFields, Standing.with_said, Serving.{HasAnswered, HasFailed, HasPut, Keeps, Outside, StopsAt}, Telling.{FailsAt, Grows, PutsHeld, TellsLines, Told}, Withheld.{Withheld, nothing_withheld}}, proofs.MoreLines.{failed_since, fails_more, grows_more, put_of_more}}
 
-module _ {M W : Type 0} (m : memory.Ghosts M) (w : sink.Ghosts W) (first : Outside M W)
+module _ {M W : Type 0} (m : MemoryGhosts M) (w : SinkGhosts W) (first : Outside M W)
     (fields : DeskFields) where
   -- a memory that keeps all of the lines keeps what a beginning of their replies says
   kept_put : (now : Outside M W) (lines : List (List ℕ)) (text more : List ℕ)

@@ -1,12 +1,7 @@
 -- The marks of the devices before a place.
-use Rattle.std.proofs.Common.{◌≡◌, ◌∙◌, ◌<◌, ◌+◌, ℕ, false, List, [], ◌∷◌, ◌++◌, refl, ap, sym, subst, arith, ⊎_elim, Contains, below_more}
-use Rattle.std.specs.Prelude.{nat_lt, slice_index_or}
-use Rattle.std.proofs.lemmas.Bool.{cases_Bool, ltb-true}
-use Rattle.std.proofs.lemmas.Bool.Decides.{nat_tests}
-use Rattle.std.proofs.lemmas.List.Elements.{All-cons, All-contains, All-nil, Contains-append_cases, Contains-append_left, Contains-append_right}
+use Rattle.std.{proofs.{Common.{◌≡◌, ◌∙◌, ◌<◌, ◌+◌, ℕ, false, List, [], ◌∷◌, ◌++◌, refl, ap, sym, subst, arith, ⊎_elim, Contains, below_more}, lemmas.{Bool.{cases_Bool, ltb-true, Decides.nat_tests}, List.Elements.{All-cons, All-contains, All-nil, Contains-append_cases, Contains-append_left, Contains-append_right}}}, specs.Prelude.{nat_lt, slice_index_or}}
 use Rattle.desk_memory.specs.{Entry.{Entry, owner_in}, KeyMark.key_mark}
-use Rattle.verifier_desk.specs.{DeviceKey.DeviceKey, KeyOwner.{IsFreeFor, StandApartBefore, StandsApart}}
-use Rattle.verifier_desk.proofs.KeyPlaces.{no_device}
+use Rattle.verifier_desk.{specs.{DeviceKey.DeviceKey, KeyOwner.{IsFreeFor, StandApartBefore, StandsApart}}, proofs.KeyPlaces.no_device}
 
 -- these are the marks of the devices before a place, and no others
 pub record AreMarks (digest : List ℕ → List ℕ) (devices : List DeviceKey) (marks : List (List ℕ))

@@ -1,16 +1,7 @@
 -- Under which name each key stands after a desk's lines.
-use Rattle.std.proofs.Common.{◌≡◌, ◌∙◌, ◌<◌, ℕ, Bool, true, false, List, [], ◌∷◌, ◌++◌, ◌&&◌, Option, Some, None, length, refl, ap, sym, subst, ⊎_elim, ◌⊎◌, inl, inr, arith}
-use Rattle.std.specs.Prelude.{if◌then◌else◌, nat_lt, not, slice_index_or}
-use Rattle.std.specs.Option.{is_some}
-use Rattle.std.specs.Str.{bytes_eq}
-use Rattle.std.proofs.lemmas.Option.{same_Some}
-use Rattle.std.proofs.lemmas.Bool.{cases_Bool, ltb-true}
-use Rattle.std.proofs.lemmas.Bool.Decides.{nat_tests}
-use Rattle.std.proofs.lemmas.Slice.Eq.{bytes_eq-Decides}
-use Rattle.desk_memory.specs.{declared.{answer.Answer.TheVariants.Stale, device_state.DeviceState.DeviceState}, DeviceState.is_new, Entry.{Entry, Note, entry_at, home_of, is_replaced, last_in, owner_in, with_entry, with_note}, KeyMark.key_mark}
-use Rattle.desk_memory.proofs.Noted.{owner_is_kept, owner_is_noted}
-use Rattle.verifier_desk.specs.{DeskLine.{DeskLine, TooLong, Silent, Foreign, Own, desk_line_of, DeviceLine}, DeviceKey.{DeviceKey, key_named}, DeviceReply.answer_after, Judged.{JudgedLine, answer_to, entry_after}, KeyOwner.{IsFreeFor, IsKeyBound, IsKeyKept, IsServedIn, IsServedThrough, IsUnderOneName, KeysAreKept, KeysStandApart, KeysStandApartIn}, Law.started_after, Noted.{entries_after, note_at, noted_of, with_noted}, Replies.{DeskFields, judge_at, lines_said, mark_at, own_answer, own_line, state_at}, Run.{AreStarted, Run, entries_through}}
-use Rattle.verifier_desk.proofs.{GoneOn.desk_goes_on, KeyPlaces.{IsPlaceOf, place_named, placed}, Remembered.{IsKnown, entry_known, line_known, memory_has_states, own_known_entry, state_known}, Repeated.{HasAnswer, has_answer}, Standing.same_device}
+use Rattle.std.{proofs.{Common.{◌≡◌, ◌∙◌, ◌<◌, ℕ, Bool, true, false, List, [], ◌∷◌, ◌++◌, ◌&&◌, Option, Some, None, length, refl, ap, sym, subst, ⊎_elim, ◌⊎◌, inl, inr, arith}, lemmas.{Option.same_Some, Bool.{cases_Bool, ltb-true, Decides.nat_tests}, Slice.Eq.bytes_eq-Decides}}, specs.{Prelude.{if◌then◌else◌, nat_lt, not, slice_index_or}, Option.is_some, Str.bytes_eq}}
+use Rattle.desk_memory.{specs.{declared.{answer.Answer.TheVariants.Stale, device_state.DeviceState.DeviceState}, DeviceState.is_new, Entry.{Entry, Note, entry_at, home_of, is_replaced, last_in, owner_in, with_entry, with_note}, KeyMark.key_mark}, proofs.Noted.{owner_is_kept, owner_is_noted}}
+use Rattle.verifier_desk.{specs.{DeskLine.{DeskLine, TooLong, Silent, Foreign, Own, desk_line_of, DeviceLine}, DeviceKey.{DeviceKey, key_named}, DeviceReply.answer_after, Judged.{JudgedLine, answer_to, entry_after}, KeyOwner.{IsFreeFor, IsKeyBound, IsKeyKept, IsServedIn, IsServedThrough, IsUnderOneName, KeysAreKept, KeysStandApart, KeysStandApartIn}, Law.started_after, Noted.{entries_after, note_at, noted_of, with_noted}, Replies.{DeskFields, judge_at, lines_said, mark_at, own_answer, own_line, state_at}, Run.{AreStarted, Run, entries_through}}, proofs.{GoneOn.desk_goes_on, KeyPlaces.{IsPlaceOf, place_named, placed}, Remembered.{IsKnown, entry_known, line_known, memory_has_states, own_known_entry, state_known}, Repeated.{HasAnswer, has_answer}, Standing.same_device}}
 
 second : (a b c : Bool) → (a && b && c) ≡ true → b ≡ true
 second true true c all = refl

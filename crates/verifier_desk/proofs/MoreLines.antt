@@ -1,11 +1,8 @@
 -- What was put of the replies to lines, where more lines follow.
-use Rattle.std.proofs.Common.{◌≡◌, ◌≤◌, ◌∙◌, ◌++◌, inl, inr, ℕ, List, [], ◌∷◌, ap, sym, arith, append_assoc, ⊎_elim}
-use Rattle.std.proofs.lemmas.List.{append-nil}
-use Rattle.outside_edge.specs.declared.sink.Sink as sink
+use Rattle.std.proofs.{Common.{◌≡◌, ◌≤◌, ◌∙◌, ◌++◌, inl, inr, ℕ, List, [], ◌∷◌, ap, sym, arith, append_assoc, ⊎_elim}, lemmas.List.append-nil}
+use Rattle.outside_edge.{specs.declared.sink.Sink.Ghosts as SinkGhosts, proofs.Counts.rose_since}
 use Rattle.source_server.specs.{declared.halt.Halt.{Halt, TheVariants.{Write, Own}}}
-use Rattle.outside_edge.proofs.Counts.{rose_since}
-use Rattle.desk_memory.specs.declared.memory.Memory as memory
-use Rattle.desk_memory.specs.{declared.memory_fault.MemoryFault.MemoryFault, Entry.Entry}
+use Rattle.desk_memory.specs.{declared.{memory.Memory.Ghosts as MemoryGhosts, memory_fault.MemoryFault.MemoryFault}, Entry.Entry}
 use Rattle.verifier_desk.specs.{declared.answer_fault.AnswerFault.{AnswerFault, TheVariants.{Memory, Unkept}}, Replies.{DeskFields, replies, reply}, Serving.{HasFailed, HasPut, IsBeginning, Outside, StopsAt}, Telling.{FailsAt, Grows}}
 
 pub more_replies : (fields : DeskFields) (more lines : List (List ℕ))
@@ -33,7 +30,7 @@ beginning_of_more fields more lines text found so =
       answered = so.answered;
     }
 
-module _ {M W : Type 0} (m : memory.Ghosts M) (w : sink.Ghosts W) where
+module _ {M W : Type 0} (m : MemoryGhosts M) (w : SinkGhosts W) where
   -- a text that was put of the replies to lines is one of those to more lines
   pub put_of_more : (first now : Outside M W) (fields : DeskFields) (more lines : List (List ℕ))
       (text : List ℕ) → HasPut m w first now fields lines text

@@ -1,6 +1,5 @@
 -- What was noted of a line, and what its reply says of it.
-use Rattle.std.proofs.Common.{◌≡◌, ◌∙◌, ℕ, Bool, true, false, List, ◌∷◌, Option, Some, None, Ok, refl, ap, sym, subst}
-use Rattle.std.specs.Prelude.{if◌then◌else◌}
+use Rattle.std.{proofs.Common.{◌≡◌, ◌∙◌, ℕ, Bool, true, false, List, ◌∷◌, Option, Some, None, Ok, refl, ap, sym, subst}, specs.Prelude.if◌then◌else◌}
 use Rattle.desk_memory.specs.{declared.{memory.Memory.Ghosts, device_state.DeviceState.DeviceState}, DeviceState.is_new, Entry.{Entry, Note}, KeyMark.key_mark}
 use Rattle.verifier_desk.specs.{Answering.NotesIf, DeskLine.{Own, DeviceLine}, DeviceKey.DeviceKey, Noted.{note_at, noted_of, with_noted}, Replies.{DeskFields, state_at}}
 

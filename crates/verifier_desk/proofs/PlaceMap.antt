@@ -1,15 +1,6 @@
 -- A tree of words with their places as a function.
-use Rattle.std.proofs.Common.{◌≡◌, ◌∙◌, ℕ, List, Option, Bool, true, false, sym, subst, ⊎_elim, Vec}
+use Rattle.std.{proofs.{Common.{◌≡◌, ◌∙◌, ℕ, List, Option, Bool, true, false, sym, subst, ⊎_elim, Vec}, lemmas.{Bool.{cases_Bool, cond-true, cond-false}, Map.Text.is_eq-slice_cmp, Slice.Eq.bytes_eq-Decides}}, specs.{BTreeMap.BTreeMap, Cmp.{eq_by_cmp_equiv, Lexicographic.{slice_cmp, nat_list_cmp_total, nat_list_eq_equiv}}, Map.{update, lookup, IsKeyTest, AreApart, KeepsOthers}, Ordering.{nat_cmp, is_eq}, Str.bytes_eq}}
 use Rattle.std.specs.BTreeMap as tree
-use Rattle.std.specs.BTreeMap.{BTreeMap}
-use Rattle.std.specs.Cmp.{eq_by_cmp_equiv}
-use Rattle.std.specs.Cmp.Lexicographic.{slice_cmp, nat_list_cmp_total, nat_list_eq_equiv}
-use Rattle.std.specs.Map.{update, lookup, IsKeyTest, AreApart, KeepsOthers}
-use Rattle.std.specs.Ordering.{nat_cmp, is_eq}
-use Rattle.std.specs.Str.{bytes_eq}
-use Rattle.std.proofs.lemmas.Bool.{cases_Bool, cond-true, cond-false}
-use Rattle.std.proofs.lemmas.Map.Text.{is_eq-slice_cmp}
-use Rattle.std.proofs.lemmas.Slice.Eq.{bytes_eq-Decides}
 
 abbrev pub place_of : {alloc : Type 0} → BTreeMap (Vec ℕ alloc) ℕ → List ℕ → Option ℕ
 place_of map word = tree.get_by (λ k. slice_cmp nat_cmp word k.items) map

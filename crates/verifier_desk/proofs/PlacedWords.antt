@@ -1,15 +1,6 @@
 -- Devices that are found by the places of their names and of their keys.
-use Rattle.std.proofs.Common.{◌≡◌, ◌<◌, ◌∙◌, ℕ, zero, suc, Bool, true, false, List, [], ◌∷◌, ◌++◌, Option, Some, None, length, refl, arith, ap, sym, subst, ⊎_elim}
-use Rattle.std.specs.Prelude.{◌≤◌, slice_index_or}
-use Rattle.std.specs.Map.{update}
-use Rattle.std.specs.Str.{bytes_eq}
-use Rattle.std.proofs.lemmas.Option.{same_Some}
-use Rattle.std.proofs.Math.Seq.{get_or-append_seam}
-use Rattle.std.proofs.lemmas.Bool.{cases_Bool, cond-true, cond-false, false≢true}
-use Rattle.std.proofs.lemmas.List.{get_or_append_left, get_or_default}
-use Rattle.std.proofs.lemmas.Slice.Eq.{bytes_eq-Decides}
-use Rattle.verifier_desk.specs.{DeviceKey.{DeviceKey, has_key, key_named, ArePlaced}, Standing.AreDistinct}
-use Rattle.verifier_desk.proofs.KeyPlaces.{IsPlaceOf, front_or_end, no_device, place_named, placed, unnamed}
+use Rattle.std.{proofs.{Common.{◌≡◌, ◌<◌, ◌∙◌, ℕ, zero, suc, Bool, true, false, List, [], ◌∷◌, ◌++◌, Option, Some, None, length, refl, arith, ap, sym, subst, ⊎_elim}, lemmas.{Option.same_Some, Bool.{cases_Bool, cond-true, cond-false, false≢true}, List.{get_or_append_left, get_or_default}, Slice.Eq.bytes_eq-Decides}, Math.Seq.get_or-append_seam}, specs.{Prelude.{◌≤◌, slice_index_or}, Map.update, Str.bytes_eq}}
+use Rattle.verifier_desk.{specs.{DeviceKey.{DeviceKey, has_key, key_named, ArePlaced}, Standing.AreDistinct}, proofs.KeyPlaces.{IsPlaceOf, front_or_end, no_device, place_named, placed, unnamed}}
 
 -- no device has this word
 abbrev pub HasNone : (DeviceKey → List ℕ) → List DeviceKey → List ℕ → Type 0

@@ -1,10 +1,8 @@
 -- The memory has the state of each device after its lines.
-use Rattle.std.proofs.{Common.{◌≡◌, ◌∙◌, ℕ, Bool, true, false, List, [], ◌∷◌, Option, Some, None, Result, Ok, Err, refl, ap, sym, subst, ⊎_elim, ◌++◌}, lemmas.{Bool.cases_Bool, Slice.Eq.bytes_eq-Decides}}
-use Rattle.std.specs.{Prelude.{if◌then◌else◌, nat_lt, length, IfSome}, Str.bytes_eq}
+use Rattle.std.{proofs.{Common.{◌≡◌, ◌∙◌, ℕ, Bool, true, false, List, [], ◌∷◌, Option, Some, None, Result, Ok, Err, refl, ap, sym, subst, ⊎_elim, ◌++◌}, lemmas.{Bool.cases_Bool, Slice.Eq.bytes_eq-Decides}}, specs.{Prelude.{if◌then◌else◌, nat_lt, length, IfSome}, Str.bytes_eq}}
 use Rattle.report_verifier.specs.Judge.{Judge}
 use Rattle.text_scan.specs.{declared.fault_kind.FaultKind.FaultKind, Decimal.decimal_of, Word.words_of}
-use Rattle.desk_memory.specs.{declared.device_state.DeviceState.DeviceState, DeviceState.{is_new, with_answer}, Entry.{Entry, Home, Note, entry_at, home_of, last_in, state_under, with_entry, with_note}, KeyMark.key_mark}
-use Rattle.desk_memory.proofs.Noted.{entry_is_last}
+use Rattle.desk_memory.{specs.{declared.device_state.DeviceState.DeviceState, DeviceState.{is_new, with_answer}, Entry.{Entry, Home, Note, entry_at, home_of, last_in, state_under, with_entry, with_note}, KeyMark.key_mark}, proofs.Noted.entry_is_last}
 use Rattle.source_server.specs.HeldLine.{LONGEST_LINE}
 use Rattle.verifier_desk.specs.{DeskLine.{DeskLine, TooLong, Silent, Foreign, Own, is_verb, own_or_foreign, desk_line_of_words, desk_line_of, DeviceLine}, DeviceKey.{DeviceKey, key_named}, DeviceReply.{new_answer, state_after, state_from}, Judged.{entry_after, entry_through, judged_by, JudgedLine}, Law.{IsRemembered, judged_at, judged_lines}, Noted.{entries_after, noted_of, with_noted}, Replies.{DeskFields, judge_at, lines_said, mark_at, state_at}, Standing.with_said, Run.{IsOfAllRuns, lines_through}}
 

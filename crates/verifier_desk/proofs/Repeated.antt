@@ -1,13 +1,7 @@
 -- The same number again.
-use Rattle.std.proofs.Common.{◌≡◌, ◌∙◌, ℕ, true, false, List, Option, Some, None, refl, arith, ap, sym, subst, inl, inr}
-use Rattle.std.specs.Prelude.{if◌then◌else◌, option_map}
-use Rattle.std.specs.Str.{bytes_eq}
-use Rattle.std.proofs.lemmas.Bool.{cases_Bool}
-use Rattle.std.proofs.lemmas.Bool.Decides.{nat_tests}
-use Rattle.std.proofs.lemmas.Slice.Eq.{bytes_eq-Decides}
+use Rattle.std.{proofs.{Common.{◌≡◌, ◌∙◌, ℕ, true, false, List, Option, Some, None, refl, arith, ap, sym, subst, inl, inr}, lemmas.{Bool.{cases_Bool, Decides.nat_tests}, Slice.Eq.bytes_eq-Decides}}, specs.{Prelude.{if◌then◌else◌, option_map}, Str.bytes_eq}}
 use Rattle.desk_memory.specs.{declared.{answer.Answer.{Answer, TheVariants.Stale}, device_state.DeviceState.DeviceState}, DeviceState.{by_number, is_new, under_new_key, with_answer}, Entry.{Entry, entry_at, entry_state, home_of}}
-use Rattle.verifier_desk.specs.{DeviceReply.new_answer, Judged.{JudgedLine, answer_to, entry_after, is_new_to, mark_of, state_before}, Law.IsRepeated}
-use Rattle.verifier_desk.proofs.AcceptedOnce.{new_by_number}
+use Rattle.verifier_desk.{specs.{DeviceReply.new_answer, Judged.{JudgedLine, answer_to, entry_after, is_new_to, mark_of, state_before}, Law.IsRepeated}, proofs.AcceptedOnce.new_by_number}
 
 -- a device's last entry has the number of a line and what was answered to it, under its key
 pub record HasAnswer (after : Option Entry) (now : JudgedLine) (answer : Answer) : Type 0 where

@@ -1,10 +1,5 @@
 -- A device at a desk beside others, and alone.
-use Rattle.std.proofs.Common.{◌≡◌, ◌∙◌, ℕ, true, false, List, [], ◌∷◌, ◌++◌, Option, Some, None, Result, Ok, Err, refl, ap, sym, subst, ⊎_elim, length}
-use Rattle.std.specs.Prelude.{nat_lt}
-use Rattle.std.specs.Str.{bytes_eq}
-use Rattle.std.proofs.lemmas.List.{append-nil}
-use Rattle.std.proofs.lemmas.Bool.{cases_Bool, false≢true}
-use Rattle.std.proofs.lemmas.Slice.Eq.{bytes_eq-Decides}
+use Rattle.std.{proofs.{Common.{◌≡◌, ◌∙◌, ℕ, true, false, List, [], ◌∷◌, ◌++◌, Option, Some, None, Result, Ok, Err, refl, ap, sym, subst, ⊎_elim, length}, lemmas.{List.append-nil, Bool.{cases_Bool, false≢true}, Slice.Eq.bytes_eq-Decides}}, specs.{Prelude.nat_lt, Str.bytes_eq}}
 use Rattle.text_scan.specs.{declared.fault_kind.FaultKind.FaultKind, Decimal.decimal_of, Word.words_of}
 use Rattle.source_server.specs.HeldLine.{LONGEST_LINE}
 use Rattle.verifier_desk.specs.{DeskLine.{DeskLine, TooLong, Silent, Foreign, Own, is_verb, own_or_foreign, desk_line_of_words, desk_line_of, DeviceLine}, DeviceKey.{DeviceKey, key_named}, Replies.{DeskFields, answer_line, own_answer, own_line, own_lines, reply_to, reply, replies}, Law.{alone, is_named, is_of, lines_of_device, replies_to_device, IsServedAlone}}

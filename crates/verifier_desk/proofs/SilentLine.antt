@@ -1,6 +1,5 @@
 -- Lines without words say nothing, and no others.
-use Rattle.std.proofs.Common.{◌≡◌, ℕ, List, [], ◌∷◌, Result, Ok, Err, refl}
-use Rattle.std.specs.Prelude.{◌↔◌, IfOk}
+use Rattle.std.{proofs.Common.{◌≡◌, ℕ, List, [], ◌∷◌, Result, Ok, Err, refl}, specs.Prelude.{◌↔◌, IfOk}}
 use Rattle.verifier_desk.specs.{declared.desk_line.SaidLine.SaidLine, DeskLine.{desk_line_of_words, said_at}}
 use Rattle.verifier_desk.specs.declared.desk_line.SaidLine.TheVariants as said
 

@@ -1,12 +1,5 @@
 -- A line of the device at a place changes the state there alone.
-use Rattle.std.proofs.Common.{◌≡◌, ◌<◌, ◌∙◌, ℕ, false, List, ◌∷◌, Option, Some, length, refl, ap, sym, subst, arith, ⊎_elim}
-use Rattle.std.specs.Prelude.{nat_eq, slice_index_or, slice_set}
-use Rattle.std.specs.Str.{bytes_eq}
-use Rattle.std.proofs.lemmas.Option.{same_Some}
-use Rattle.std.proofs.lemmas.List.{get_or-set_same, get_or-set_other}
-use Rattle.std.proofs.lemmas.Bool.{cases_Bool, eqb-true, false_from_ne_true}
-use Rattle.std.proofs.lemmas.Bool.Decides.{nat_tests}
-use Rattle.std.proofs.lemmas.Slice.Eq.{bytes_eq-Decides}
+use Rattle.std.{proofs.{Common.{◌≡◌, ◌<◌, ◌∙◌, ℕ, false, List, ◌∷◌, Option, Some, length, refl, ap, sym, subst, arith, ⊎_elim}, lemmas.{Option.same_Some, List.{get_or-set_same, get_or-set_other}, Bool.{cases_Bool, eqb-true, false_from_ne_true, Decides.nat_tests}, Slice.Eq.bytes_eq-Decides}}, specs.{Prelude.{nat_eq, slice_index_or, slice_set}, Str.bytes_eq}}
 use Rattle.report_verifier.specs.{Judge.Judge, Policy.PolicyFields}
 use Rattle.desk_memory.specs.declared.device_state.DeviceState.{DeviceState}
 use Rattle.verifier_desk.specs.{DeskLine.{Own, DeviceLine}, DeviceKey.DeviceKey, Replies.{DeskFields, judge_at, state_at}, Standing.{IsKeptAtItsPlace, StatesStand, with_said}}

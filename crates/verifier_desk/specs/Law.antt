@@ -1,8 +1,5 @@
 -- What the replies of a desk keep.
-use Rattle.std.specs.Prelude.{◌≡◌, ◌<◌, ◌≤◌, ℕ, Bool, true, false, List, [], ◌∷◌, ◌++◌, if◌then◌else◌, map, Option, Some, None, Result, Ok, Err, Contains, IfSome}
-use Rattle.std.specs.List.{filter}
-use Rattle.std.specs.Prelude.{All}
-use Rattle.std.specs.Str.{bytes_eq}
+use Rattle.std.specs.{Prelude.{◌≡◌, ◌<◌, ◌≤◌, ℕ, Bool, true, false, List, [], ◌∷◌, ◌++◌, if◌then◌else◌, map, Option, Some, None, Result, Ok, Err, Contains, IfSome, All}, List.filter, Str.bytes_eq}
 use Rattle.device_types.specs.Report.{ReportFields}
 use Rattle.text_scan.specs.declared.fault_kind.FaultKind.{FaultKind}
 use Rattle.report_text.specs.ReportFile.{report2_of}

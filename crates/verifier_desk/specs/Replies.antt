@@ -1,7 +1,5 @@
 -- What a desk replies to lines.
-use Rattle.std.specs.Prelude.{ℕ, ◌++◌, Bool, false, List, [], ◌∷◌, if◌then◌else◌, Option, codes}
-use Rattle.std.specs.Fmt.{decimal}
-use Rattle.std.specs.Str.{bytes_eq}
+use Rattle.std.specs.{Prelude.{ℕ, ◌++◌, Bool, false, List, [], ◌∷◌, if◌then◌else◌, Option, codes}, Fmt.decimal, Str.bytes_eq}
 use Rattle.part_definitions.specs.Request.{request_token}
 use Rattle.printed_lines.specs.Line.{line_of}
 use Rattle.report_text.specs.RequestLine.{request_pieces}

@@ -1,22 +1,20 @@
 -- What a desk that serves a source puts into a sink, and what a crash leaves of its memory.
 use Rattle.std.specs.Prelude.{◌≡◌, ◌⊎◌, ◌++◌, ℕ, List, [], ◌∷◌, IsTrue}
-use Rattle.outside_edge.specs.{Calls.Rose, Sink.Takes}
-use Rattle.outside_edge.specs.declared.sink.Sink as sink
+use Rattle.outside_edge.specs.{Calls.Rose, Sink.Takes, declared.sink.Sink.Ghosts as SinkGhosts}
 use Rattle.source_server.specs.{declared.halt.Halt.{Halt, TheVariants.{Write, Own}}, LineCut.{all_lines, whole_lines}, Lines.StopsAmong, Responder.Promise}
-use Rattle.desk_memory.specs.declared.memory.Memory as memory
-use Rattle.desk_memory.specs.{declared.memory_fault.MemoryFault.MemoryFault, Entry.Entry, Kept.IsKept}
+use Rattle.desk_memory.specs.{declared.{memory.Memory.Ghosts as MemoryGhosts, memory_fault.MemoryFault.MemoryFault}, Entry.Entry, Kept.IsKept}
 use Rattle.desk_memory.specs.declared.memory_fault.MemoryFault.TheVariants as refused
 use Rattle.verifier_desk.specs.{declared.answer_fault.AnswerFault.{AnswerFault, TheVariants.{Memory, Unkept}}, DeskLine.desk_line_of, Noted.entries_after, Replies.{DeskFields, gives_report, lines_said, replies}}
 
 -- a memory has these entries, whatever crash leaves them and no others, and its file alone has them
-pub record Keeps {M : Type 0} (m : memory.Ghosts M) (now : M) (entries : List Entry)
+pub record Keeps {M : Type 0} (m : MemoryGhosts M) (now : M) (entries : List Entry)
     : Type 0 where
   pub has : m.stands now entries
   pub keeps : m.is_honest now → IsKept m.may_leave now entries
   pub whole : m.is_honest now → m.is_whole now
 
 -- a call of the memory has failed, or was refused memory
-abbrev pub HasFailed : {M : Type 0} → memory.Ghosts M → M → M → MemoryFault → Type 0
+abbrev pub HasFailed : {M : Type 0} → MemoryGhosts M → M → M → MemoryFault → Type 0
 HasFailed m old new fault =
     ((fault ≡ refused.Memory) × m.lacks) ⊎ Rose (m.faults old) (m.faults new)
 
@@ -37,7 +35,7 @@ pub record IsBeginning (fields : DeskFields) (lines : List (List ℕ)) (text : L
   pub answered : replies fields kept ≡ text ++ more
 
 -- this text was put of the replies to these lines, and no crash takes back what it says
-pub record HasPut {M W : Type 0} (m : memory.Ghosts M) (w : sink.Ghosts W)
+pub record HasPut {M W : Type 0} (m : MemoryGhosts M) (w : SinkGhosts W)
     (first now : Outside M W) (fields : DeskFields) (lines : List (List ℕ)) (text : List ℕ)
     : Type 0 where
   pub put : Takes w.stands first.sink now.sink text
@@ -45,7 +43,7 @@ pub record HasPut {M W : Type 0} (m : memory.Ghosts M) (w : sink.Ghosts W)
       → IsBeginning fields lines text found
 
 -- the replies to all these lines were put, and the memory keeps what they say
-pub record HasAnswered {M W : Type 0} (m : memory.Ghosts M) (w : sink.Ghosts W)
+pub record HasAnswered {M W : Type 0} (m : MemoryGhosts M) (w : SinkGhosts W)
     (first now : Outside M W) (fields : DeskFields) (lines : List (List ℕ)) : Type 0 where
   pub put : Takes w.stands first.sink now.sink (replies fields lines)
   pub keeps : Keeps m now.memory (entries_after fields lines)
@@ -54,7 +52,7 @@ pub record HasAnswered {M W : Type 0} (m : memory.Ghosts M) (w : sink.Ghosts W)
 -- replies begin with what was put; the memory failed, and the replies to a beginning of the lines
 -- were put, none in part; or there was no memory for that line, which gives a report, and those
 -- before it were answered.
-abbrev pub StopsAt : {M W : Type 0} → memory.Ghosts M → sink.Ghosts W → Outside M W → Outside M W
+abbrev pub StopsAt : {M W : Type 0} → MemoryGhosts M → SinkGhosts W → Outside M W → Outside M W
     → DeskFields → List (List ℕ) → Halt AnswerFault → Type 0
 StopsAt m w first now fields lines Write =
     Rose (w.faults first.sink) (w.faults now.sink)
@@ -72,7 +70,7 @@ StopsAt m w first now fields (line ∷ earlier) (Own Memory) =
 
 -- What a desk's outside is, behind bytes that a source gave: all lines that are whole were
 -- answered, at the end all lines; or it stopped at one of them, or had no memory to begin with.
-abbrev pub desk_promise : {M W : Type 0} → memory.Ghosts M → sink.Ghosts W → DeskFields
+abbrev pub desk_promise : {M W : Type 0} → MemoryGhosts M → SinkGhosts W → DeskFields
     → Outside M W → Promise (Outside M W) AnswerFault
 desk_promise m w fields first =
     record {

@@ -1,5 +1,4 @@
-ghost use Rattle.std.specs.Prelude.{◌≡◌, ◌≤◌, length};
-ghost use Rattle.std.specs.List.{list_all};
+ghost use Rattle.std.specs.{Prelude.{◌≡◌, ◌≤◌, length}, List.list_all};
 ghost use Rattle.text_scan.specs.{Reader.ReadsWord, Word.words_of};
 ghost use Rattle.verifier_desk.specs.DeviceKey.{device_of, is_name_character, name_fault};
 

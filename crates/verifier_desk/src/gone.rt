@@ -1,5 +1,4 @@
-ghost use Rattle.std.specs.Prelude.{◌≡◌};
-ghost use Rattle.std.specs.Option.{is_some};
+ghost use Rattle.std.specs.{Prelude.◌≡◌, Option.is_some};
 ghost use Rattle.desk_memory.specs.Entry.{home_of, last_in};
 ghost use Rattle.verifier_desk.specs.DeviceKey.{first_gone};
 

@@ -1,7 +1,4 @@
-ghost use Rattle.std.specs.Prelude.{◌≡◌, ◌<◌, ◌++◌, ◌∷◌, [], ℕ, false, Some, None, IfSome, IfNone, OnOk, length, slice_index_or};
-ghost use Rattle.std.specs.List.{position_from};
-ghost use Rattle.std.specs.Option.{is_some};
-ghost use Rattle.std.specs.Str.{bytes_eq};
+ghost use Rattle.std.specs.{Prelude.{◌≡◌, ◌<◌, ◌++◌, ◌∷◌, [], ℕ, false, Some, None, IfSome, IfNone, OnOk, length, slice_index_or}, List.position_from, Option.is_some, Str.bytes_eq};
 ghost use Rattle.text_scan.specs.{LineFold.TakesLine, Reader.Reads};
 ghost use Rattle.verifier_desk.specs.DeviceKey.{DeviceKey as DeviceFields, devices_of, has_key, key_named, with_device, with_line};
 

@@ -1,7 +1,5 @@
 -- Decimal sums of numbers in binary-coded decimal.
-use Rattle.std.proofs.Common.{◌≡◌, ℕ, zero, suc, ◌<◌, ◌+◌, ◌*◌, ◌/◌, ◌%◌, ◌^◌, Bool, true, false, nat_le, refl, ap, arith}
-use Rattle.std.proofs.lemmas.Bool.Decides.{nat_tests}
-use Rattle.std.proofs.Math.Nat.{pow-suc}
+use Rattle.std.proofs.{Common.{◌≡◌, ℕ, zero, suc, ◌<◌, ◌+◌, ◌*◌, ◌/◌, ◌%◌, ◌^◌, Bool, true, false, nat_le, refl, ap, arith}, lemmas.Bool.Decides.nat_tests, Math.Nat.pow-suc}
 use Rattle.word_arith.specs.{Number.bit_of, Decimal.{digit_of, coded_decimal, DecimalSumIsOfNumbers}}
 
 -- what the places above the lowest add up to

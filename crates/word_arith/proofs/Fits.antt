@@ -1,6 +1,5 @@
 -- Results are numbers of their size.
-use Rattle.std.proofs.Common.{ℕ, ◌<◌, bit_or, bit_xor, bit_and, arith}
-use Rattle.std.proofs.lemmas.Nat.{or_lt, xor_lt, and_le_l}
+use Rattle.std.proofs.{Common.{ℕ, ◌<◌, bit_or, bit_xor, bit_and, arith}, lemmas.Nat.{or_lt, xor_lt, and_le_l}}
 use Rattle.word_arith.specs.{declared.size.Size.{Size, TheVariants.{Byte, Word}}, Number.modulus}
 
 pub and_fits : (size : Size) (left right : ℕ) → left < modulus size

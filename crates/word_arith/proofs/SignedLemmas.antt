@@ -1,7 +1,5 @@
 -- What the flags say of signed numbers.
-use Rattle.std.proofs.Common.{true, false, arith}
-use Rattle.std.proofs.lemmas.Int.{ints}
-use Rattle.std.proofs.lemmas.Bool.Decides.{nat_tests}
+use Rattle.std.proofs.{Common.{true, false, arith}, lemmas.{Int.ints, Bool.Decides.nat_tests}}
 use Rattle.word_arith.specs.{declared.size.Size.TheVariants.{Byte, Word}, SignedNumber.{OverflowIsSigned, ComparisonOrders}}
 
 pub overflow_is_signed : OverflowIsSigned

@@ -1,5 +1,4 @@
-ghost use Rattle.std.specs.Prelude.{◌≡◌, ◌<◌, ◌^◌, ◌&&◌, IfOk, IfSome, List, Some};
-ghost use Rattle.std.specs.Option.{is_none};
+ghost use Rattle.std.specs.{Prelude.{◌≡◌, ◌<◌, ◌^◌, ◌&&◌, IfOk, IfSome, List, Some}, Option.is_none};
 ghost use Rattle.outside_edge.specs.Sink.{Puts, CountsFaults};
 ghost use Rattle.report_verifier.specs.declared.verdict.Verdict.{Verdict};
 ghost use Rattle.device_trace.specs.Text.{some_line};

@@ -23,8 +23,7 @@ struct EntryFlag {
 }
 
 impl TraceFlag for EntryFlag {
-    ghost use Rattle.std.specs.Prelude.{◌≡◌, ◌==◌, false, option_map, unwrap_or};
-    ghost use Rattle.std.proofs.Common.{◌∙◌, sym};
+    ghost use Rattle.std.{specs.Prelude.{◌≡◌, ◌==◌, false, option_map, unwrap_or}, proofs.Common.{◌∙◌, sym}};
     ghost use Rattle.device_types.specs.ExecFlag.{last_pc};
 
     ghost flag = { record {

@@ -1,6 +1,5 @@
 use Rattle.std.proofs.Common.{◌++◌, ◌∷◌, [], refl}
-use Rattle.asm_text.specs.Statement.{is_readable}
-use Rattle.asm_text.proofs.Behind.{gathered-more}
+use Rattle.asm_text.{specs.Statement.is_readable, proofs.Behind.gathered-more}
 use Rattle.asm_text.proofs.directive.read_ascii.Goals as goal
 
 pub loop-part-preserved : goal.loop-part-preserved

@@ -1,7 +1,5 @@
-use Rattle.std.proofs.Common.{◌≡◌, List}
-use Rattle.std.specs.Prelude.{map}
-use Rattle.asm_text.specs.{Operand.{parts_of, all_of}, Statement.is_readable}
-use Rattle.asm_text.proofs.Behind.{behind}
+use Rattle.std.{proofs.Common.{◌≡◌, List}, specs.Prelude.map}
+use Rattle.asm_text.{specs.{Operand.{parts_of, all_of}, Statement.is_readable}, proofs.Behind.behind}
 use Rattle.asm_text.proofs.directive.read_ascii.Given as goal
 
 abbrev pub invariant-loop-part : goal.invariant-loop-part

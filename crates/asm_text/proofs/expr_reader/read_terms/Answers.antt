@@ -1,7 +1,5 @@
-use Rattle.std.proofs.Common.{arith, ◌∙◌, ap, sym, ◌≡◌, ◌++◌, ◌∷◌, [], ◌≤◌, length}
-use Rattle.std.proofs.lemmas.Result.{err_from_is_err_and}
-use Rattle.asm_text.specs.Operand.{term_of, sign_of}
-use Rattle.asm_text.proofs.{TokenSteps.ok_of_map_err, TermSteps.{next_term, no_term, no_sign, last_term, term_missing}}
+use Rattle.std.proofs.{Common.{arith, ◌∙◌, ap, sym, ◌≡◌, ◌++◌, ◌∷◌, [], ◌≤◌, length}, lemmas.Result.err_from_is_err_and}
+use Rattle.asm_text.{specs.Operand.{term_of, sign_of}, proofs.{TokenSteps.ok_of_map_err, TermSteps.{next_term, no_term, no_sign, last_term, term_missing}}}
 use Rattle.asm_text.proofs.expr_reader.read_terms.Goals as goal
 
 pub returns-in_err-term_of : goal.returns-in_err-term_of

@@ -1,6 +1,5 @@
 use Rattle.std.proofs.Common.{◌≡◌, length}
-use Rattle.asm_text.specs.Operand.{terms_of}
-use Rattle.asm_text.proofs.Behind.{behind}
+use Rattle.asm_text.{specs.Operand.terms_of, proofs.Behind.behind}
 use Rattle.asm_text.proofs.expr_reader.read_terms.Given as goal
 
 abbrev pub invariant-loop-rest : goal.invariant-loop-rest

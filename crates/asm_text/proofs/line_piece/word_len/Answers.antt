@@ -1,8 +1,5 @@
-use Rattle.std.proofs.Common.{◌∙◌, rules, tests}
-use Rattle.std.proofs.lemmas.Iterator.{YieldsList-from_slice}
-use Rattle.std.proofs.lemmas.Iterator.Search.{position_from_yields_List}
-use Rattle.asm_text.specs.Word.{ends_word}
-use Rattle.asm_text.proofs.Cuts.{first_or_length}
+use Rattle.std.proofs.{Common.{◌∙◌, rules, tests}, lemmas.Iterator.{YieldsList-from_slice, Search.position_from_yields_List}}
+use Rattle.asm_text.{specs.Word.ends_word, proofs.Cuts.first_or_length}
 use Rattle.asm_text.proofs.line_piece.word_len.Goals as goal
 
 pub returns-clause-count : goal.returns-clause-count

@@ -1,8 +1,5 @@
-use Rattle.std.proofs.Common.{◌≡◌, length}
-use Rattle.std.specs.Prelude.{map}
-use Rattle.std.specs.Vec.Iter.{into_iter_items, into_iter_len}
-use Rattle.asm_text.specs.{Operand.all_of, Statement.{operand_expr, all_exprs}}
-use Rattle.asm_text.proofs.Behind.{behind}
+use Rattle.std.{proofs.Common.{◌≡◌, length}, specs.{Prelude.map, Vec.Iter.{into_iter_items, into_iter_len}}}
+use Rattle.asm_text.{specs.{Operand.all_of, Statement.{operand_expr, all_exprs}}, proofs.Behind.behind}
 use Rattle.asm_text.proofs.operands.all_exprs.Given as goal
 
 abbrev pub invariant-loop-operand : goal.invariant-loop-operand

@@ -1,7 +1,5 @@
-use Rattle.std.proofs.Common.{◌≡◌}
-use Rattle.std.specs.Prelude.{map}
-use Rattle.asm_text.specs.Operand.{operand_of, operands_of, all_of}
-use Rattle.asm_text.proofs.Behind.{behind}
+use Rattle.std.{proofs.Common.◌≡◌, specs.Prelude.map}
+use Rattle.asm_text.{specs.Operand.{operand_of, operands_of, all_of}, proofs.Behind.behind}
 use Rattle.asm_text.proofs.operands.read_operands.Given as goal
 
 abbrev pub invariant-loop-part : goal.invariant-loop-part

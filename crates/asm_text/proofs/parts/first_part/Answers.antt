@@ -1,8 +1,5 @@
-use Rattle.std.proofs.Common.{◌+◌, ◌<◌, ◌∷◌, ◌∙◌, ap, sym, arith, take, length}
-use Rattle.std.specs.List.{slice_split}
-use Rattle.std.proofs.lemmas.List.{take_rest}
-use Rattle.asm_text.specs.Operand.{is_comma}
-use Rattle.asm_text.proofs.Cuts.{parts-cut, parts-uncut}
+use Rattle.std.{proofs.{Common.{◌+◌, ◌<◌, ◌∷◌, ◌∙◌, ap, sym, arith, take, length}, lemmas.List.take_rest}, specs.List.slice_split}
+use Rattle.asm_text.{specs.Operand.is_comma, proofs.Cuts.{parts-cut, parts-uncut}}
 use Rattle.asm_text.proofs.parts.first_part.Goals as goal
 
 pub returns-then-end-tokens : goal.returns-then-end-tokens

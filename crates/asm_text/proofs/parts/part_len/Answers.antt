@@ -1,8 +1,5 @@
-use Rattle.std.proofs.Common.{◌∙◌, rules, tests}
-use Rattle.std.proofs.lemmas.Iterator.{YieldsList-from_slice}
-use Rattle.std.proofs.lemmas.Iterator.Search.{position_from_yields_List}
-use Rattle.asm_text.specs.Operand.{is_comma}
-use Rattle.asm_text.proofs.Cuts.{first_or_length}
+use Rattle.std.proofs.{Common.{◌∙◌, rules, tests}, lemmas.Iterator.{YieldsList-from_slice, Search.position_from_yields_List}}
+use Rattle.asm_text.{specs.Operand.is_comma, proofs.Cuts.first_or_length}
 use Rattle.asm_text.proofs.parts.part_len.Goals as goal
 
 pub returns-clause-count : goal.returns-clause-count

@@ -1,6 +1,5 @@
 use Rattle.std.proofs.Common.{◌≡◌, ◌++◌, ◌∷◌, []}
-use Rattle.asm_text.specs.Source.{statement_of}
-use Rattle.asm_text.proofs.{Behind.gathered-more, TokenSteps.ok_of_map_err}
+use Rattle.asm_text.{specs.Source.statement_of, proofs.{Behind.gathered-more, TokenSteps.ok_of_map_err}}
 use Rattle.asm_text.proofs.source_reader.read_lines.Goals as goal
 
 pub loop-number-preserved : goal.loop-number-preserved

@@ -1,8 +1,6 @@
-use Rattle.std.proofs.Common.{◌≡◌}
-use Rattle.std.specs.Prelude.{map}
+use Rattle.std.{proofs.Common.◌≡◌, specs.Prelude.map}
 use Rattle.text_scan.specs.LineFold.{text_lines}
-use Rattle.asm_text.specs.{Operand.all_of, Source.statement_of}
-use Rattle.asm_text.proofs.Behind.{behind}
+use Rattle.asm_text.{specs.{Operand.all_of, Source.statement_of}, proofs.Behind.behind}
 use Rattle.asm_text.proofs.source_reader.read_lines.Given as goal
 
 abbrev pub invariant-loop-number : goal.invariant-loop-number

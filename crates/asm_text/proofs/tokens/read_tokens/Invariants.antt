@@ -1,6 +1,5 @@
 use Rattle.std.proofs.Common.{length, ◌-◌}
-use Rattle.asm_text.specs.Token.{tokens_of}
-use Rattle.asm_text.proofs.TokenSteps.{ReadTo}
+use Rattle.asm_text.{specs.Token.tokens_of, proofs.TokenSteps.ReadTo}
 use Rattle.asm_text.proofs.tokens.read_tokens.Given as goal
 
 abbrev pub invariant-loop-at : goal.invariant-loop-at

@@ -1,7 +1,6 @@
 use Rattle.std.proofs.Common.{Ok, refl}
 use Rattle.mem_map.specs.Image.{byte_in}
-use Rattle.debug_cli.specs.Session.{run_with, Debugs, Session, debug_row}
-use Rattle.debug_cli.proofs.ServedSession.{debug_end, refused-answer, served-answer}
+use Rattle.debug_cli.{specs.Session.{run_with, Debugs, Session, debug_row}, proofs.ServedSession.{debug_end, refused-answer, served-answer}}
 use Rattle.debug_cli.proofs.debug.run_debug.Goals as goal
 
 pub returns-in-Ok : goal.returns-in-Ok

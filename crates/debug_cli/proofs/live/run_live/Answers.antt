@@ -1,7 +1,6 @@
 use Rattle.std.proofs.Common.{Ok, refl}
 use Rattle.mem_map.specs.Image.{byte_in}
-use Rattle.debug_cli.specs.Session.{start_with, Lives, Session, live_row}
-use Rattle.debug_cli.proofs.ServedSession.{live_end, refused-answer, served-answer}
+use Rattle.debug_cli.{specs.Session.{start_with, Lives, Session, live_row}, proofs.ServedSession.{live_end, refused-answer, served-answer}}
 use Rattle.debug_cli.proofs.live.run_live.Goals as goal
 
 pub returns-in-Ok : goal.returns-in-Ok

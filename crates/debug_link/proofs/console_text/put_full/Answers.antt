@@ -1,7 +1,5 @@
-use Rattle.std.proofs.Common.{◌≡◌, [], length, arith}
-use Rattle.std.proofs.lemmas.Bool.Decides.{nat_tests}
-use Rattle.debug_link.specs.Console.{MOST_TEXT}
-use Rattle.debug_link.proofs.AddedText.{added_full, added_none, adds_failed, full_failed}
+use Rattle.std.proofs.{Common.{◌≡◌, [], length, arith}, lemmas.Bool.Decides.nat_tests}
+use Rattle.debug_link.{specs.Console.MOST_TEXT, proofs.AddedText.{added_full, added_none, adds_failed, full_failed}}
 use Rattle.debug_link.proofs.console_text.put_full.Goals as goal
 
 pub returns-in_err-put_piece-clause-adds : goal.returns-in_err-put_piece-clause-adds

@@ -1,5 +1,4 @@
-use Rattle.debug_link.specs.Console.{text_body}
-use Rattle.debug_link.proofs.AddedText.{put_one}
+use Rattle.debug_link.{specs.Console.text_body, proofs.AddedText.put_one}
 use Rattle.debug_link.proofs.console_text.put_piece.Goals as goal
 
 pub returns-clause-puts : goal.returns-clause-puts

@@ -1,7 +1,5 @@
-use Rattle.std.proofs.Common.{◌+◌, Ok, Err, arith, drop, refl, take, List, ℕ}
-use Rattle.std.proofs.lemmas.List.{take-append-drop, take_all}
-use Rattle.debug_link.specs.declared.connection.Connection.TheVariants.{Open, Closed}
-use Rattle.debug_link.proofs.Parties.{by_byte, by_closed, by_failed, by_none}
+use Rattle.std.proofs.{Common.{◌+◌, Ok, Err, arith, drop, refl, take, List, ℕ}, lemmas.List.{take-append-drop, take_all}}
+use Rattle.debug_link.{specs.declared.connection.Connection.TheVariants.{Open, Closed}, proofs.Parties.{by_byte, by_closed, by_failed, by_none}}
 use Rattle.debug_link.proofs.serving.answer_piece.Goals as goal
 
 pub loop-byte-init : goal.loop-byte-init

@@ -1,6 +1,5 @@
 use Rattle.std.proofs.Common.{◌≤◌, Ok, take}
-use Rattle.debug_link.specs.declared.connection.Connection.TheVariants.{Open}
-use Rattle.debug_link.proofs.Parties.{GoesOnBy}
+use Rattle.debug_link.{specs.declared.connection.Connection.TheVariants.Open, proofs.Parties.GoesOnBy}
 use Rattle.debug_link.proofs.serving.answer_piece.Given as goal
 
 -- what came of the piece so far is answered

@@ -1,8 +1,6 @@
 use Rattle.std.proofs.Common.{arith}
 use Rattle.source_server.proofs.ServedPieces.{serves_as}
-use Rattle.debug_link.specs.Conversation.{interrupts_of}
-use Rattle.debug_link.specs.Serving.{TalkStart, parties_promise, talk_promise}
-use Rattle.debug_link.proofs.{Interrupts.may-come, PacketPieces.first_stands}
+use Rattle.debug_link.{specs.{Conversation.interrupts_of, Serving.{TalkStart, parties_promise, talk_promise}}, proofs.{Interrupts.may-come, PacketPieces.first_stands}}
 use Rattle.debug_link.proofs.serving.serve.Goals as goal
 
 pub returns-clause-serves : goal.returns-clause-serves

@@ -1,6 +1,5 @@
 use Rattle.std.proofs.lemmas.List.Sums.{position_or_len_is}
-use Rattle.debug_session.specs.Action.{ends_action}
-use Rattle.debug_session.proofs.Cuts.{before_is}
+use Rattle.debug_session.{specs.Action.ends_action, proofs.Cuts.before_is}
 use Rattle.debug_session.proofs.action.one_action.Goals as goal
 
 pub returns : goal.returns

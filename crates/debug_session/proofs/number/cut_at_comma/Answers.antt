@@ -1,8 +1,5 @@
-use Rattle.std.proofs.Common.{◌+◌, ◌∙◌}
-use Rattle.std.proofs.lemmas.List.{take_rest}
-use Rattle.std.proofs.lemmas.List.Sums.{position_or_len_is}
-use Rattle.debug_session.specs.Number.{is_comma}
-use Rattle.debug_session.proofs.Cuts.{all_before, before_is, behind_is, none_behind}
+use Rattle.std.proofs.{Common.{◌+◌, ◌∙◌}, lemmas.List.{take_rest, Sums.position_or_len_is}}
+use Rattle.debug_session.{specs.Number.is_comma, proofs.Cuts.{all_before, before_is, behind_is, none_behind}}
 use Rattle.debug_session.proofs.number.cut_at_comma.Goals as goal
 
 pub returns-then-end-text : goal.returns-then-end-text

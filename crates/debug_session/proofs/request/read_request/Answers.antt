@@ -1,5 +1,4 @@
-use Rattle.std.proofs.Common.{Ok, Some, ap, arith}
-use Rattle.std.proofs.lemmas.List.{length-take-le}
+use Rattle.std.proofs.{Common.{Ok, Some, ap, arith}, lemmas.List.length-take-le}
 use Rattle.debug_session.proofs.Decoded.{read}
 use Rattle.debug_session.proofs.request.read_request.Goals as goal
 

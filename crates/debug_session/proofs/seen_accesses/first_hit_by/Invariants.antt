@@ -1,5 +1,4 @@
-use Rattle.std.proofs.Common.{◌≡◌, drop}
-use Rattle.std.specs.Option.{option_or}
+use Rattle.std.{proofs.Common.{◌≡◌, drop}, specs.Option.option_or}
 use Rattle.debug_session.specs.Watched.{first_hit, hits_by_access}
 use Rattle.debug_session.proofs.seen_accesses.first_hit_by.Given as goal
 

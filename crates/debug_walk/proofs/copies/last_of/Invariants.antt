@@ -1,5 +1,4 @@
-use Rattle.std.proofs.Common.{◌<◌, IfSome}
-use Rattle.std.specs.List.{All}
+use Rattle.std.{proofs.Common.{◌<◌, IfSome}, specs.List.All}
 use Rattle.debug_session.specs.Place.{Run}
 use Rattle.debug_walk.specs.{Copies.IsCopy, Walk.place_of}
 use Rattle.debug_walk.proofs.copies.last_of.Given as goal

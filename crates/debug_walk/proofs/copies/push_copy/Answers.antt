@@ -1,7 +1,4 @@
-use Rattle.std.proofs.Common.{◌++◌, Bool, true, false, List, [], ◌∷◌, sym, subst}
-use Rattle.std.specs.List.{All}
-use Rattle.std.specs.Prelude.{if◌then◌else◌}
-use Rattle.std.proofs.lemmas.List.Elements.{All-push}
+use Rattle.std.{proofs.{Common.{◌++◌, Bool, true, false, List, [], ◌∷◌, sym, subst}, lemmas.List.Elements.All-push}, specs.{List.All, Prelude.if◌then◌else◌}}
 use Rattle.debug_walk.specs.Copies.{IsCopy}
 use Rattle.debug_walk.proofs.copies.push_copy.Goals as goal
 

@@ -1,5 +1,4 @@
-use Rattle.std.proofs.Common.{◌≡◌, ◌≤◌, ◌<◌, ◌+◌, ◌-◌, ◌∙◌, ◌⊎◌, inl, inr, ⊎_elim, ap, refl, sym, arith}
-use Rattle.std.proofs.lemmas.Bool.{cases_lt}
+use Rattle.std.proofs.{Common.{◌≡◌, ◌≤◌, ◌<◌, ◌+◌, ◌-◌, ◌∙◌, ◌⊎◌, inl, inr, ⊎_elim, ap, refl, sym, arith}, lemmas.Bool.cases_lt}
 use Rattle.debug_session.specs.{Place.sight_at, Shown.bytes_shown}
 use Rattle.debug_walk.proofs.ShownBytes.{all-shown, none-there, shown-end, shown-more}
 use Rattle.debug_walk.proofs.memory_view.live_bytes.Goals as goal

@@ -1,5 +1,4 @@
-use Rattle.std.proofs.Common.{◌≡◌, ◌%◌, ◌∙◌, Some, None, ap, sym}
-use Rattle.std.proofs.lemmas.Bool.{cond-true}
+use Rattle.std.proofs.{Common.{◌≡◌, ◌%◌, ◌∙◌, Some, None, ap, sym}, lemmas.Bool.cond-true}
 use Rattle.word_arith.specs.declared.size.Size.TheVariants.{Byte}
 use Rattle.device_trace.specs.Signals.{number_read}
 use Rattle.debug_session.specs.Place.{is_shown, logs_at, play_to, sight_at}

@@ -1,7 +1,6 @@
 use Rattle.std.proofs.Common.{Ok, refl}
 use Rattle.mem_map.specs.Image.{byte_in}
-use Rattle.desk_cli.specs.Desk.{DeskValues}
-use Rattle.desk_cli.proofs.DeskAnswer.{desk_end, refused-answer, served-answer}
+use Rattle.desk_cli.{specs.Desk.DeskValues, proofs.DeskAnswer.{desk_end, refused-answer, served-answer}}
 use Rattle.desk_cli.proofs.desk.run_desk.Goals as goal
 
 pub returns-in-Ok : goal.returns-in-Ok

@@ -1,7 +1,6 @@
 use Rattle.std.proofs.Common.{refl}
 use Rattle.source_server.specs.declared.served.Served.TheVariants.{Own}
-use Rattle.verifier_desk.specs.declared.answer_fault.AnswerFault.TheVariants.{Memory}
-use Rattle.verifier_desk.proofs.DeskServed.{lacks_served}
+use Rattle.verifier_desk.{specs.declared.answer_fault.AnswerFault.TheVariants.Memory, proofs.DeskServed.lacks_served}
 use Rattle.desk_cli.proofs.desk.serve_from.Goals as goal
 
 pub returns-in-Err-clause-served : goal.returns-in-Err-clause-served

@@ -1,7 +1,6 @@
 use Rattle.std.proofs.Common.{List}
 use Rattle.desk_memory.specs.Entry.{Entry}
-use Rattle.desk_cli.specs.Move.{MoveNames}
-use Rattle.desk_cli.proofs.DepartedAnswer.{goes, stays}
+use Rattle.desk_cli.{specs.Move.MoveNames, proofs.DepartedAnswer.{goes, stays}}
 use Rattle.desk_cli.proofs.moving.move_in.Goals as goal
 
 pub returns-in-Err-clause-moves : goal.returns-in-Err-clause-moves

@@ -1,5 +1,4 @@
-use Rattle.std.proofs.Common.{◌≡◌, ◌∙◌, ℕ, length, take, ap, arith, subst}
-use Rattle.std.proofs.Math.Seq.{take-length}
+use Rattle.std.proofs.{Common.{◌≡◌, ◌∙◌, ℕ, length, take, ap, arith, subst}, Math.Seq.take-length}
 use Rattle.desk_memory.specs.Entry.{with_entries}
 use Rattle.desk_cli.proofs.Noting.{Notes, note-failed, notes-next, notes-none, notes-settled}
 use Rattle.desk_cli.proofs.note_all.note_all.Goals as goal

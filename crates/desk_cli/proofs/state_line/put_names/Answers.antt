@@ -1,5 +1,4 @@
-use Rattle.std.proofs.Common.{◌++◌, ◌∷◌, append_assoc}
-use Rattle.std.specs.Prelude.{codes}
+use Rattle.std.{proofs.Common.{◌++◌, ◌∷◌, append_assoc}, specs.Prelude.codes}
 use Rattle.outside_edge.proofs.SinkLemmas.{puts_after}
 use Rattle.desk_cli.proofs.state_line.put_names.Goals as goal
 

@@ -2,8 +2,7 @@ use Rattle.std.proofs.Common.{[], ◌∷◌, ap}
 use Rattle.printed_lines.specs.Line.{line_of, with_pieces}
 use Rattle.outside_edge.proofs.SinkLemmas.{prefix_of_more, puts_after, puts-failed}
 use Rattle.desk_memory.specs.Entry.{Home}
-use Rattle.desk_cli.specs.StateText.{desk_pieces, form_for, form_name, moves_pieces}
-use Rattle.desk_cli.proofs.StatesPut.{line-parts}
+use Rattle.desk_cli.{specs.StateText.{desk_pieces, form_for, form_name, moves_pieces}, proofs.StatesPut.line-parts}
 use Rattle.desk_cli.proofs.state_line.put_state.Goals as goal
 
 pub returns-in_err-put_names-clause-puts : goal.returns-in_err-put_names-clause-puts

@@ -1,9 +1,6 @@
-use Rattle.std.proofs.Common.{◌≡◌, ◌∙◌, ◌+◌, ◌++◌, ℕ, length, take, drop, refl, ap, arith, subst, sym, append-nil}
-use Rattle.std.proofs.Math.Seq.{take-length}
-use Rattle.outside_edge.specs.Sink.{Takes, TakesPrefix}
-use Rattle.outside_edge.proofs.SinkLemmas.{prefix_after, prefix_of_more, puts-failed, takes_both}
-use Rattle.desk_cli.specs.StateText.{state_line, states_text}
-use Rattle.desk_cli.proofs.StatesPut.{states-begin, states-next}
+use Rattle.std.proofs.{Common.{◌≡◌, ◌∙◌, ◌+◌, ◌++◌, ℕ, length, take, drop, refl, ap, arith, subst, sym, append-nil}, Math.Seq.take-length}
+use Rattle.outside_edge.{specs.Sink.{Takes, TakesPrefix}, proofs.SinkLemmas.{prefix_after, prefix_of_more, puts-failed, takes_both}}
+use Rattle.desk_cli.{specs.StateText.{state_line, states_text}, proofs.StatesPut.{states-begin, states-next}}
 use Rattle.desk_cli.proofs.state_line.put_states.Goals as goal
 
 pub loop-entry-init : goal.loop-entry-init

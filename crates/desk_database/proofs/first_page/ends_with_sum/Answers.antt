@@ -1,6 +1,4 @@
-use Rattle.std.proofs.Common.{◌≡◌, ◌≤◌, length, take, drop, sym, ap₂, ◌∙◌, arith, rules, bytes_eq, length-take-le}
-use Rattle.std.proofs.lemmas.List.{places, take_rest}
-use Rattle.std.proofs.lemmas.Slice.Eq.{bytes_eq-Decides}
+use Rattle.std.proofs.{Common.{◌≡◌, ◌≤◌, length, take, drop, sym, ap₂, ◌∙◌, arith, rules, bytes_eq, length-take-le}, lemmas.{List.{places, take_rest}, Slice.Eq.bytes_eq-Decides}}
 use Rattle.sqlite_pool.specs.Stored.{sum_bytes}
 use Rattle.desk_database.proofs.first_page.ends_with_sum.Goals as goal
 

@@ -1,10 +1,8 @@
 use Rattle.std.proofs.Common.{◌≡◌, ◌≤◌, List, ℕ, length, sym, ap, subst, ◌∙◌, arith, true≢false}
 use Rattle.sqlite_format.specs.Bytes.{u32_at}
 use Rattle.sqlite_disk.specs.Disk.{Holds}
-use Rattle.sqlite_wal.proofs.PartLemmas.{held_is_part}
-use Rattle.sqlite_wal.specs.Recovery.{file_page}
-use Rattle.desk_database.specs.{Log.{EndsWithSum, stored_page}, MemoryTables.page_size}
-use Rattle.desk_database.proofs.LogLemmas.{version_in_file}
+use Rattle.sqlite_wal.{proofs.PartLemmas.held_is_part, specs.Recovery.file_page}
+use Rattle.desk_database.{specs.{Log.{EndsWithSum, stored_page}, MemoryTables.page_size}, proofs.LogLemmas.version_in_file}
 use Rattle.desk_database.proofs.first_page.read_first_page.Goals as goal
 
 pub returns-then-ends_with_sum-clause-page : goal.returns-then-ends_with_sum-clause-page

@@ -1,11 +1,6 @@
-use Rattle.std.proofs.Common.{◌≡◌, length, rules, arith}
-use Rattle.std.proofs.lemmas.Result.{err_from_is_err_and}
-use Rattle.sqlite_wal.proofs.CleanLemmas.{halves}
-use Rattle.sqlite_wal.proofs.OutcomeLemmas.{HasCause-weaker}
-use Rattle.sqlite_wal.specs.Files.{seen_image}
-use Rattle.sqlite_wal.specs.Opening.{RefusesLog}
-use Rattle.desk_database.specs.Log.{stored_page}
-use Rattle.desk_database.proofs.LogLemmas.{fits_by_file, fits_by_log, fits_without}
+use Rattle.std.proofs.{Common.{◌≡◌, length, rules, arith}, lemmas.Result.err_from_is_err_and}
+use Rattle.sqlite_wal.{proofs.{CleanLemmas.halves, OutcomeLemmas.HasCause-weaker}, specs.{Files.seen_image, Opening.RefusesLog}}
+use Rattle.desk_database.{specs.Log.stored_page, proofs.LogLemmas.{fits_by_file, fits_by_log, fits_without}}
 use Rattle.desk_database.proofs.log_fit.probe_log.Goals as goal
 
 pub returns-in_err-numbers-clause-cause : goal.returns-in_err-numbers-clause-cause

@@ -1,6 +1,4 @@
-use Rattle.std.proofs.Common.{ap, ◌∙◌, inl, arith}
-use Rattle.std.proofs.Math.Logic.{∥∥₁_map}
-use Rattle.std.proofs.lemmas.Grind.{not_there}
+use Rattle.std.proofs.{Common.{ap, ◌∙◌, inl, arith}, Math.Logic.∥∥₁_map, lemmas.Grind.not_there}
 use Rattle.desk_database.proofs.{FailLemmas.wanted_more, HeldLemmas.{nothing_of, unstarted_of, memory_is_something, creates_keeps}, TableLemmas.memory_can_be_made}
 use Rattle.sqlite_store.specs.Unopened.{image}
 use Rattle.desk_database.proofs.memory_store.create_tables.Goals as goal

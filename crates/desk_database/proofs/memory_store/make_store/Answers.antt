@@ -1,10 +1,8 @@
 use denote.Enum.Bare.{sameb}
-use Rattle.std.proofs.Common.{◌≡◌, ◌∙◌, IsTrue, false, sym, subst, true≢false}
-use Rattle.std.specs.Prelude.{◌↔◌}
+use Rattle.std.{proofs.Common.{◌≡◌, ◌∙◌, IsTrue, false, sym, subst, true≢false}, specs.Prelude.◌↔◌}
 use Rattle.sqlite_pool.specs.Opening.{IsBlankFile}
 use Rattle.sqlite_wal.specs.Recovery.{Image}
-use Rattle.desk_database.specs.{contracts.log_fit.LogFit.the_type, declared.log_fit.LogFit.{LogFit, TheVariants.{Begun, Fits, Other}}, Log.{FitsMaking, IsLogFit}, Held.IsKept, Opening.{WhyUnmade, image_of}, MemoryTables.page_size}
-use Rattle.desk_database.proofs.{FailLemmas.why_more, FilesLemmas.{kept_by_files, looked_kept, now_clean, same_image}, HeldLemmas.can_replay, LogLemmas.is_of_making, StepLemmas.{cause_on, over_files}}
+use Rattle.desk_database.{specs.{contracts.log_fit.LogFit.the_type, declared.log_fit.LogFit.{LogFit, TheVariants.{Begun, Fits, Other}}, Log.{FitsMaking, IsLogFit}, Held.IsKept, Opening.{WhyUnmade, image_of}, MemoryTables.page_size}, proofs.{FailLemmas.why_more, FilesLemmas.{kept_by_files, looked_kept, now_clean, same_image}, HeldLemmas.can_replay, LogLemmas.is_of_making, StepLemmas.{cause_on, over_files}}}
 use Rattle.desk_database.proofs.memory_store.make_store.Goals as goal
 
 -- what was not told to be another's is of no other opening

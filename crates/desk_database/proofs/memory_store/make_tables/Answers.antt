@@ -1,10 +1,7 @@
-use Rattle.std.proofs.Common.{inl, sym, true≢false, ◌∙◌}
+use Rattle.std.{proofs.{Common.{inl, sym, true≢false, ◌∙◌}, lemmas.Result.{IfErr-weaker, IfOk-weaker}}, specs.Prelude.IsTrue}
 use Rattle.sqlite_pool.specs.Opening.{IsBlankFile}
 use Rattle.sqlite_store.specs.Unopened.{image, state_of}
-use Rattle.std.specs.Prelude.{IsTrue}
-use Rattle.desk_database.specs.{Begun.IsBegun, Held.IsKept, MemoryTables.page_size}
-use Rattle.std.proofs.lemmas.Result.{IfErr-weaker, IfOk-weaker}
-use Rattle.desk_database.proofs.StepLemmas.{given_through, refused_as, refused_kept, refused_through}
+use Rattle.desk_database.{specs.{Begun.IsBegun, Held.IsKept, MemoryTables.page_size}, proofs.StepLemmas.{given_through, refused_as, refused_kept, refused_through}}
 use Rattle.desk_database.proofs.memory_store.make_tables.Goals as goal
 
 pub returns-then-is_blank-clause-refused : goal.returns-then-is_blank-clause-refused

@@ -1,8 +1,7 @@
 use denote.Enum.Bare.{sameb}
 use Rattle.std.proofs.Common.{◌≡◌, ◌∙◌, false, true, inl, inr, not, sym, true≢false}
 use Rattle.sqlite_wal.specs.Recovery.{Image}
-use Rattle.desk_database.specs.{contracts.log_fit.LogFit.the_type, declared.log_fit.LogFit.{LogFit, TheVariants.{Begun, Fits, Other}}, Log.{FitsLog, IsLogFit}, Begun.IsBegun, Held.IsSpared, Opening.{WhyUnopened, image_of}}
-use Rattle.desk_database.proofs.{FailLemmas.why_more, FilesLemmas.{looked_spared, now_clean, spared_by_files}, HeldLemmas.can_replay, LogLemmas.is_of_making, StepLemmas.{begun_is_spared, cause_on, lacks_on, over_files, something_on}}
+use Rattle.desk_database.{specs.{contracts.log_fit.LogFit.the_type, declared.log_fit.LogFit.{LogFit, TheVariants.{Begun, Fits, Other}}, Log.{FitsLog, IsLogFit}, Begun.IsBegun, Held.IsSpared, Opening.{WhyUnopened, image_of}}, proofs.{FailLemmas.why_more, FilesLemmas.{looked_spared, now_clean, spared_by_files}, HeldLemmas.can_replay, LogLemmas.is_of_making, StepLemmas.{begun_is_spared, cause_on, lacks_on, over_files, something_on}}}
 use Rattle.desk_database.proofs.memory_store.open_store.Goals as goal
 
 is_fit : (image : Image) (fit : LogFit) → not (sameb the_type fit Fits) ≡ false

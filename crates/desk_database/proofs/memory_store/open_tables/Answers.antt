@@ -1,9 +1,5 @@
-use Rattle.std.proofs.Common.{le_refl, eq-eqb, true≢false, ◌≡◌, ◌≢◌, [], length, subst, sym, ap, ◌∙◌, inl, rules, arith}
-use Rattle.std.proofs.lemmas.List.{nil_from_length}
-use Rattle.std.specs.Vec.{vec_len}
-use Rattle.std.proofs.Math.Logic.{∥∥₁_map}
-use Rattle.sqlite_store.specs.FileStore.{view}
-use Rattle.sqlite_store.specs.Unopened.{IsCatalogOf}
+use Rattle.std.{proofs.{Common.{le_refl, eq-eqb, true≢false, ◌≡◌, ◌≢◌, [], length, subst, sym, ap, ◌∙◌, inl, rules, arith}, lemmas.List.nil_from_length, Math.Logic.∥∥₁_map}, specs.Vec.vec_len}
+use Rattle.sqlite_store.specs.{FileStore.view, Unopened.IsCatalogOf}
 use Rattle.desk_database.proofs.{FailLemmas.fails_behind, HeldLemmas.{as_before, opens_spare}, CatalogLemmas.{opened_memory, nothing_back, mid_size, nothing_lists, finds_through, spared_through, can_be_opened, has_some_file}}
 use Rattle.desk_database.proofs.memory_store.open_tables.Goals as goal
 

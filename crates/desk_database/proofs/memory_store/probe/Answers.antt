@@ -1,8 +1,6 @@
-use Rattle.std.proofs.Common.{IsTrue, sym, subst}
-use Rattle.std.specs.Prelude.{◌↔◌}
+use Rattle.std.{proofs.Common.{IsTrue, sym, subst}, specs.Prelude.◌↔◌}
 use Rattle.sqlite_pool.specs.Opening.{IsBlankFile}
-use Rattle.desk_database.specs.{Opening.image_of, MemoryTables.page_size}
-use Rattle.desk_database.proofs.{FailLemmas.from_log, FilesLemmas.read_image}
+use Rattle.desk_database.{specs.{Opening.image_of, MemoryTables.page_size}, proofs.{FailLemmas.from_log, FilesLemmas.read_image}}
 use Rattle.desk_database.proofs.memory_store.probe.Goals as goal
 
 pub returns-in-Err-clause-cause : goal.returns-in-Err-clause-cause

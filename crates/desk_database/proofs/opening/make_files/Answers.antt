@@ -1,11 +1,7 @@
 use Rattle.std.proofs.Common.{◌≤◌, sym, ap, subst, ◌∙◌, inl, inr, arith}
-use Rattle.sqlite_trees.specs.Tree.{Trees}
-use Rattle.sqlite_trees.specs.View.{IsClean}
-use Rattle.sqlite_trees.proofs.Doubt.{clean_of, no_doubt}
-use Rattle.sqlite_store.specs.FileStore.{view, faults}
-use Rattle.sqlite_store.specs.Laws.{settled_at}
-use Rattle.desk_database.specs.{Table.IsUnfounded, Opening.{WhyUnmade, faults_of, image_of}}
-use Rattle.desk_database.proofs.TableRead.{can_be_founded, finds_rows, from_table, has_entries, has_tables, is_foreign}
+use Rattle.sqlite_trees.{specs.{Tree.Trees, View.IsClean}, proofs.Doubt.{clean_of, no_doubt}}
+use Rattle.sqlite_store.specs.{FileStore.{view, faults}, Laws.settled_at}
+use Rattle.desk_database.{specs.{Table.IsUnfounded, Opening.{WhyUnmade, faults_of, image_of}}, proofs.TableRead.{can_be_founded, finds_rows, from_table, has_entries, has_tables, is_foreign}}
 use Rattle.desk_database.proofs.opening.make_files.Goals as goal
 
 pub returns-in-Ok-clause-made : goal.returns-in-Ok-clause-made

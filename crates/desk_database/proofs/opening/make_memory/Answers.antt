@@ -1,6 +1,5 @@
 use Rattle.std.proofs.Common.{◌≡◌, subst, subst₂}
-use Rattle.desk_database.specs.Opening.{FailsAs, IsMadeOver, WhyUnmade}
-use Rattle.desk_database.proofs.FilesLemmas.{kept_leaves}
+use Rattle.desk_database.{specs.Opening.{FailsAs, IsMadeOver, WhyUnmade}, proofs.FilesLemmas.kept_leaves}
 use Rattle.desk_database.proofs.opening.make_memory.Goals as goal
 
 pub returns-in-Ok-make_files-clause-made : goal.returns-in-Ok-make_files-clause-made

@@ -1,12 +1,7 @@
-use Rattle.std.proofs.Common.{◌≤◌, sym, ap, subst, ◌∙◌, inl, inr, arith}
-use Rattle.std.proofs.Math.Logic.{∥∥₁_map}
-use Rattle.sqlite_trees.specs.Tree.{Trees}
-use Rattle.sqlite_trees.specs.View.{IsClean}
-use Rattle.sqlite_trees.proofs.Doubt.{clean_of, no_doubt}
-use Rattle.sqlite_store.specs.FileStore.{view, faults}
-use Rattle.sqlite_store.specs.Laws.{settled_at}
-use Rattle.desk_database.specs.{Table.IsMemoryOf, Log.with_next_version, Opening.{WhyUnopened, faults_of, image_of}}
-use Rattle.desk_database.proofs.TableRead.{can_be_founded, finds_rows, from_table, has_entries, has_tables, is_foreign, is_unfounded}
+use Rattle.std.proofs.{Common.{◌≤◌, sym, ap, subst, ◌∙◌, inl, inr, arith}, Math.Logic.∥∥₁_map}
+use Rattle.sqlite_trees.{specs.{Tree.Trees, View.IsClean}, proofs.Doubt.{clean_of, no_doubt}}
+use Rattle.sqlite_store.specs.{FileStore.{view, faults}, Laws.settled_at}
+use Rattle.desk_database.{specs.{Table.IsMemoryOf, Log.with_next_version, Opening.{WhyUnopened, faults_of, image_of}}, proofs.TableRead.{can_be_founded, finds_rows, from_table, has_entries, has_tables, is_foreign, is_unfounded}}
 use Rattle.desk_database.proofs.opening.open_files.Goals as goal
 
 pub returns-in-Ok-clause-opened : goal.returns-in-Ok-clause-opened

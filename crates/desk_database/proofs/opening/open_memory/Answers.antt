@@ -1,6 +1,5 @@
 use Rattle.std.proofs.Common.{◌≡◌, subst, subst₂}
-use Rattle.desk_database.specs.Opening.{FailsAs, IsOpenOver, WhyUnopened}
-use Rattle.desk_database.proofs.FilesLemmas.{spared_leaves}
+use Rattle.desk_database.{specs.Opening.{FailsAs, IsOpenOver, WhyUnopened}, proofs.FilesLemmas.spared_leaves}
 use Rattle.desk_database.proofs.opening.open_memory.Goals as goal
 
 pub returns-in-Ok-open_files-clause-opened : goal.returns-in-Ok-open_files-clause-opened

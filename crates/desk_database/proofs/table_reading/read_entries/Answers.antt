@@ -1,8 +1,7 @@
 use Rattle.std.proofs.Common.{◌≡◌, ◌∙◌, ◌+◌, ◌++◌, ◌∷◌, [], ℕ, List, length, length-append, ap, arith, sym}
 use Rattle.sqlite_trees.specs.View.{IsClean}
 use Rattle.desk_memory.specs.Entry.{Entry, are_sized}
-use Rattle.desk_database.specs.Rows.{row_of, rows_from}
-use Rattle.desk_database.proofs.{Moved.{entry_next, quiet_then, row_next}, TableRows.{are_sized-push, foreign_row}}
+use Rattle.desk_database.{specs.Rows.{row_of, rows_from}, proofs.{Moved.{entry_next, quiet_then, row_next}, TableRows.{are_sized-push, foreign_row}}}
 use Rattle.desk_database.proofs.table_reading.read_entries.Goals as goal
 
 pub returns-in_default-clause-reason : goal.returns-in_default-clause-reason

@@ -1,9 +1,6 @@
-use Rattle.std.proofs.Common.{◌≡◌, [], arith, ap, length, rules, eq-eqb, sym, ◌∙◌, true≢false, subst}
-use Rattle.std.specs.Vec.{vec_len}
-use Rattle.std.proofs.lemmas.Result.{err_from_is_err_and}
+use Rattle.std.{proofs.{Common.{◌≡◌, [], arith, ap, length, rules, eq-eqb, sym, ◌∙◌, true≢false, subst}, lemmas.Result.err_from_is_err_and}, specs.Vec.vec_len}
 use Rattle.sqlite_trees.specs.View.{IsClean, View}
-use Rattle.desk_database.specs.TableOpening.{IsForeign}
-use Rattle.desk_database.proofs.Reasons.{no_desk, no_entries, no_owner, reason_on}
+use Rattle.desk_database.{specs.TableOpening.IsForeign, proofs.Reasons.{no_desk, no_entries, no_owner, reason_on}}
 use Rattle.desk_database.proofs.table_reading.read_memory.Goals as goal
 
 pub returns-in_err-entries-clause-reason : goal.returns-in_err-entries-clause-reason

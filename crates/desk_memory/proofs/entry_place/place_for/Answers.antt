@@ -1,6 +1,5 @@
 use Rattle.std.proofs.Common.{◌≡◌, ◌∙◌, ℕ, List, length, sym, arith}
-use Rattle.desk_memory.specs.Entry.{Entry}
-use Rattle.desk_memory.proofs.{Places.{place_from-next, place_from-start, place_past, place_past-within}, entry_place.place_for.Goals.{then-eq+then-eq-2, then-eq+else-eq-2, else-eq}}
+use Rattle.desk_memory.{specs.Entry.Entry, proofs.{Places.{place_from-next, place_from-start, place_past, place_past-within}, entry_place.place_for.Goals.{then-eq+then-eq-2, then-eq+else-eq-2, else-eq}}}
 use Rattle.desk_memory.proofs.entry_place.place_for.Goals as goal
 
 pub loop-index-init : goal.loop-index-init

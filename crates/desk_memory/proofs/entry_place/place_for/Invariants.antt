@@ -1,6 +1,5 @@
 use Rattle.std.proofs.Common.{◌≡◌, ◌≤◌, drop, length}
-use Rattle.desk_memory.specs.Entry.{place_for}
-use Rattle.desk_memory.proofs.Places.{place_from}
+use Rattle.desk_memory.{specs.Entry.place_for, proofs.Places.place_from}
 use Rattle.desk_memory.proofs.entry_place.place_for.Given as goal
 
 abbrev pub invariant-loop-index : goal.invariant-loop-index

@@ -1,6 +1,4 @@
-use Rattle.std.proofs.Common.{◌≡◌, drop}
-use Rattle.std.specs.Prelude.{option_map, if◌then◌else◌}
-use Rattle.std.specs.Option.{is_some}
+use Rattle.std.{proofs.Common.{◌≡◌, drop}, specs.{Prelude.{option_map, if◌then◌else◌}, Option.is_some}}
 use Rattle.desk_memory.specs.Entry.{last_in}
 use Rattle.desk_memory.proofs.last_entry.last_of.Given as goal
 

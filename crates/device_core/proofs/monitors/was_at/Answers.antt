@@ -1,5 +1,4 @@
-use Rattle.std.proofs.Common.{◌∙◌, Some, ap}
-use Rattle.std.proofs.lemmas.Bool.{eqb-true}
+use Rattle.std.proofs.{Common.{◌∙◌, Some, ap}, lemmas.Bool.eqb-true}
 use Rattle.device_core.proofs.monitors.was_at.Goals as goal
 
 pub returns-in-Some : goal.returns-in-Some

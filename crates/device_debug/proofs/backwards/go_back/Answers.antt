@@ -2,8 +2,7 @@ use Rattle.std.proofs.Common.{◌≡◌, ◌≤◌, ◌<◌, ◌∙◌, ⊎_elim
 use Rattle.debug_session.specs.Request.{most_steps}
 use Rattle.debug_link.proofs.Interrupts.{none-came}
 use Rattle.debug_walk.specs.Walk.{place_of}
-use Rattle.device_debug.specs.Going.{step_in}
-use Rattle.device_debug.proofs.{Arrived.{back-begun, back-found, back-interrupted, back-none}, Back.{NoneBehind, none-further}, Found.{found-one, looked-again, some-came}}
+use Rattle.device_debug.{specs.Going.step_in, proofs.{Arrived.{back-begun, back-found, back-interrupted, back-none}, Back.{NoneBehind, none-further}, Found.{found-one, looked-again, some-came}}}
 use Rattle.device_debug.proofs.backwards.go_back.Goals as goal
 
 pub returns-then-end-le1-clause-goes : goal.returns-then-end-le1-clause-goes

@@ -2,8 +2,7 @@ use Rattle.std.proofs.Common.{◌≡◌, ◌<◌}
 use Rattle.debug_session.specs.Place.{Run}
 use Rattle.debug_link.specs.Conversation.{HaveCome}
 use Rattle.debug_walk.specs.Copies.{TrackStandsFor}
-use Rattle.device_debug.specs.Going.{step_in}
-use Rattle.device_debug.proofs.Back.{NoneBehind}
+use Rattle.device_debug.{specs.Going.step_in, proofs.Back.NoneBehind}
 use Rattle.device_debug.proofs.backwards.go_back.Given as goal
 
 abbrev pub invariant-loop-walk : goal.invariant-loop-walk

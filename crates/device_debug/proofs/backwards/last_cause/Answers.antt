@@ -1,8 +1,7 @@
 use Rattle.std.proofs.Common.{◌≡◌, ◌∙◌, ◌⊎◌, ℕ, true, subst, arith}
 use Rattle.debug_session.specs.{Cause.cause, Place.{sight_at, view_of}}
 use Rattle.debug_walk.specs.Walk.{IsStretch, place_of}
-use Rattle.device_debug.specs.{Ahead.{IsLastBehind, seek_back}, Going.step_in}
-use Rattle.device_debug.proofs.{Back.exact-tells, LookingBack.{looks-back, looks-on}}
+use Rattle.device_debug.{specs.{Ahead.{IsLastBehind, seek_back}, Going.step_in}, proofs.{Back.exact-tells, LookingBack.{looks-back, looks-on}}}
 use Rattle.device_debug.proofs.backwards.last_cause.Goals as goal
 
 pub loop-here-preserved : goal.loop-here-preserved

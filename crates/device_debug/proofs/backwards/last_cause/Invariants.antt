@@ -1,8 +1,7 @@
 use Rattle.std.proofs.Common.{◌≡◌, ◌-◌}
 use Rattle.debug_session.specs.Place.{Run}
 use Rattle.debug_walk.specs.{Copies.{IsBefore, IsBegun, TrackStandsFor}, Walk.{Walks, place_of}}
-use Rattle.device_debug.specs.Going.{step_in}
-use Rattle.device_debug.proofs.LookingBack.{IsLookingBack}
+use Rattle.device_debug.{specs.Going.step_in, proofs.LookingBack.IsLookingBack}
 use Rattle.device_debug.proofs.backwards.last_cause.Given as goal
 
 abbrev pub invariant-loop-here : goal.invariant-loop-here

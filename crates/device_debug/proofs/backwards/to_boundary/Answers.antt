@@ -1,5 +1,4 @@
-use Rattle.std.proofs.Common.{◌≡◌, ◌≤◌, ◌<◌, inr, ⊎_elim, ℕ, false, subst, sym, arith}
-use Rattle.std.proofs.lemmas.Bool.{cases_lt}
+use Rattle.std.proofs.{Common.{◌≡◌, ◌≤◌, ◌<◌, inr, ⊎_elim, ℕ, false, subst, sym, arith}, lemmas.Bool.cases_lt}
 use Rattle.debug_session.specs.Place.{sight_at}
 use Rattle.debug_walk.specs.Walk.{IsStretch, place_of}
 use Rattle.device_debug.proofs.backwards.to_boundary.Goals as goal

@@ -2,8 +2,7 @@ use Rattle.std.proofs.Common.{◌≡◌, ◌∙◌, refl, Some, None, arith}
 use Rattle.debug_session.specs.Place.{Run, view_of}
 use Rattle.debug_link.proofs.Interrupts.{none-came}
 use Rattle.debug_walk.specs.{Copies.TrackStandsFor, Walk.{Walks, place_of}}
-use Rattle.device_debug.specs.{Ahead.refused_at, Going.{StandsAt, step_in}}
-use Rattle.device_debug.proofs.{Found.{found-one, some-came}, Going.{HasPassed, before-fails, before-none, before-stops, cause-is, end-fails, goes-on, going-ends, going-first, going-interrupted, passes-on, step_before, stops-there, tell-failed}, forwards.go_forwards.{Given.Over, Goals.{After-leave, After-stop_before}}}
+use Rattle.device_debug.{specs.{Ahead.refused_at, Going.{StandsAt, step_in}}, proofs.{Found.{found-one, some-came}, Going.{HasPassed, before-fails, before-none, before-stops, cause-is, end-fails, goes-on, going-ends, going-first, going-interrupted, passes-on, step_before, stops-there, tell-failed}, forwards.go_forwards.{Given.Over, Goals.{After-leave, After-stop_before}}}}
 use Rattle.device_debug.proofs.forwards.go_forwards.Goals as goal
 
 -- with a copy of the walk more

@@ -3,8 +3,7 @@ use Rattle.word_arith.specs.Number.{bit_of}
 use Rattle.debug_session.specs.{Request.most_steps, Place.Run}
 use Rattle.debug_link.specs.Conversation.{HaveCome}
 use Rattle.debug_walk.specs.{Copies.TrackStandsFor, Walk.{Walks, place_of}}
-use Rattle.device_debug.specs.Going.{StandsAt, step_in}
-use Rattle.device_debug.proofs.Going.{IsGoing}
+use Rattle.device_debug.{specs.Going.{StandsAt, step_in}, proofs.Going.IsGoing}
 use Rattle.device_debug.proofs.forwards.go_forwards.Given as goal
 
 abbrev pub invariant-loop-passing : goal.invariant-loop-passing

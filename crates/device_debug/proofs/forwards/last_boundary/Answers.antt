@@ -1,9 +1,7 @@
-use Rattle.std.proofs.Common.{◌≡◌, ◌≤◌, ◌<◌, ◌+◌, ◌∙◌, ⊎_elim, ℕ, suc, None, is_some, subst, sym, arith}
-use Rattle.std.specs.Prelude.{if◌then◌else◌}
+use Rattle.std.{proofs.Common.{◌≡◌, ◌≤◌, ◌<◌, ◌+◌, ◌∙◌, ⊎_elim, ℕ, suc, None, is_some, subst, sym, arith}, specs.Prelude.if◌then◌else◌}
 use Rattle.debug_session.specs.Place.{sight_at, view_of}
 use Rattle.debug_walk.specs.Walk.{place_of}
-use Rattle.device_debug.specs.Ahead.{last_boundary, place_past}
-use Rattle.device_debug.proofs.Refusals.{past-first, past-next}
+use Rattle.device_debug.{specs.Ahead.{last_boundary, place_past}, proofs.Refusals.{past-first, past-next}}
 use Rattle.device_debug.proofs.forwards.last_boundary.Goals as goal
 
 pub loop-walk-init : goal.loop-walk-init

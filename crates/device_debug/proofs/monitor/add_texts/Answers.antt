@@ -1,12 +1,10 @@
 use Rattle.std.proofs.Common.{◌≡◌, ◌∙◌, ◌-◌, ◌+◌, ◌++◌, ◌<◌, ℕ, List, suc, ap, subst, sym, arith}
-use Rattle.debug_session.specs.{Request.most_steps, Monitor.texts_from, Place.{Run, step_sight, view_of}}
+use Rattle.debug_session.{specs.{Request.most_steps, Monitor.texts_from, Place.{Run, step_sight, view_of}}, proofs.Views.next-at}
 use Rattle.device_core.specs.Device.{LiveStandsFor}
 use Rattle.device_trace.specs.Trace.{play_of}
 use Rattle.debug_link.proofs.{AddedText.{PutsPrefix, adds_failed, prefix_none}, Faults.{counts_memory, counts_passed, counts_unwritten}}
-use Rattle.debug_session.proofs.Views.{next-at}
 use Rattle.debug_walk.specs.{Copies.played_run, Walk.{place_of, second_flag}}
-use Rattle.device_debug.specs.Telling.{text_in}
-use Rattle.device_debug.proofs.AddedSteps.{all_added, no_step_added, one_step_added, step_failed}
+use Rattle.device_debug.{specs.Telling.text_in, proofs.AddedSteps.{all_added, no_step_added, one_step_added, step_failed}}
 use Rattle.device_debug.proofs.monitor.add_texts.Goals as goal
 
 pub returns-in_err-walk-clause-adds : goal.returns-in_err-walk-clause-adds

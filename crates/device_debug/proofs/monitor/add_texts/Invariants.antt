@@ -1,8 +1,7 @@
 use Rattle.std.proofs.Common.{◌≤◌, ◌-◌}
 use Rattle.debug_session.specs.{Request.most_steps, Place.{Run, view_of}}
 use Rattle.debug_walk.specs.{Copies.played_run, Walk.{Walks, place_of}}
-use Rattle.device_debug.specs.Telling.{text_in}
-use Rattle.device_debug.proofs.AddedSteps.{IsAddedTo}
+use Rattle.device_debug.{specs.Telling.text_in, proofs.AddedSteps.IsAddedTo}
 use Rattle.device_debug.proofs.monitor.add_texts.Given as goal
 
 -- the device is in the middle of the play, and the texts of the steps so far are added

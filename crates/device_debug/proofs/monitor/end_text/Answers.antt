@@ -4,8 +4,7 @@ use Rattle.debug_walk.specs.Walk.{place_of}
 use Rattle.printed_lines.specs.Line.{end_line}
 use Rattle.device_trace.specs.{Logs.exec_of, Progress.next_pc_of}
 use Rattle.device_play.proofs.WatchedPlay.{length-play_of}
-use Rattle.device_debug.specs.Telling.{GrownText}
-use Rattle.device_debug.proofs.Refusals.{grown-all}
+use Rattle.device_debug.{specs.Telling.GrownText, proofs.Refusals.grown-all}
 use Rattle.device_debug.proofs.monitor.end_text.Goals as goal
 
 pub returns-clause-text : goal.returns-clause-text

@@ -1,11 +1,8 @@
-use Rattle.std.proofs.Common.{◌≡◌, ◌∙◌, ◌-◌, ◌++◌, ℕ, [], ap, sym, min, arith}
-use Rattle.std.proofs.lemmas.List.{append-nil}
-use Rattle.debug_session.specs.{declared.request.Request.TheVariants.{Flags, Steps}, Monitor.{flags_text, last_lines, request_text, texts_from}, Place.view_of, Sight.Sight}
+use Rattle.std.proofs.{Common.{◌≡◌, ◌∙◌, ◌-◌, ◌++◌, ℕ, [], ap, sym, min, arith}, lemmas.List.append-nil}
+use Rattle.debug_session.{specs.{declared.request.Request.TheVariants.{Flags, Steps}, Monitor.{flags_text, last_lines, request_text, texts_from}, Place.view_of, Sight.Sight}, proofs.Views.view-at}
 use Rattle.debug_link.proofs.AddedText.{put_none}
-use Rattle.debug_session.proofs.Views.{view-at}
 use Rattle.debug_walk.specs.Walk.{place_of}
-use Rattle.device_debug.specs.{Telling.text_in, declared.step_text.StepText.TheVariants.{Lines, Trace as TraceText}}
-use Rattle.device_debug.proofs.{AddedSteps.asked-put, Refusals.puts-none}
+use Rattle.device_debug.{specs.{Telling.text_in, declared.step_text.StepText.TheVariants.{Lines, Trace as TraceText}}, proofs.{AddedSteps.asked-put, Refusals.puts-none}}
 use Rattle.device_debug.proofs.monitor.tell.Goals as goal
 
 pub returns-in-Steps-clause-tells : goal.returns-in-Steps-clause-tells

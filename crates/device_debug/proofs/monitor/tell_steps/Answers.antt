@@ -1,9 +1,7 @@
 use Rattle.std.proofs.Common.{◌++◌, ◌-◌, Ok, subst, arith}
-use Rattle.debug_link.specs.{Console.console, Writing.PutsPackets, declared.answer_fault.AnswerFault.AnswerFault}
-use Rattle.debug_link.proofs.{AddedText.puts_failed, Faults.{counts_passed, counts_unwritten}}
+use Rattle.debug_link.{specs.{Console.console, Writing.PutsPackets, declared.answer_fault.AnswerFault.AnswerFault}, proofs.{AddedText.puts_failed, Faults.{counts_passed, counts_unwritten}}}
 use Rattle.debug_session.specs.{Monitor.texts_from, Place.{Run, view_of}}
-use Rattle.device_debug.specs.Telling.{text_in}
-use Rattle.device_debug.proofs.AddedSteps.{steps-cut, steps-cut-late, steps-finished}
+use Rattle.device_debug.{specs.Telling.text_in, proofs.AddedSteps.{steps-cut, steps-cut-late, steps-finished}}
 use Rattle.device_debug.proofs.monitor.tell_steps.Goals as goal
 
 pub returns-in_err-add_texts-clause-tells : goal.returns-in_err-add_texts-clause-tells

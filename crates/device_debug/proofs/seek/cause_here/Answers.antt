@@ -1,8 +1,7 @@
 use Rattle.std.proofs.Common.{◌≡◌, ◌∙◌, Bool, None, true, ap, sym}
 use Rattle.debug_session.specs.{Cause.stop_of, Place.sight_at}
 use Rattle.debug_walk.specs.{Walk.place_of, declared.stretch.Stretch.Stretch}
-use Rattle.device_debug.specs.Going.{step_in, steps_by}
-use Rattle.device_debug.proofs.Back.{cause-known}
+use Rattle.device_debug.{specs.Going.{step_in, steps_by}, proofs.Back.cause-known}
 use Rattle.device_debug.proofs.seek.cause_here.Goals as goal
 
 pub returns : goal.returns

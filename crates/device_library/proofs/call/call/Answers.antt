@@ -1,7 +1,6 @@
 use Rattle.std.specs.Str.Lines.{lines}
 use Rattle.device_cli.specs.Command.{row_of}
-use Rattle.device_library.specs.Call.{files_named}
-use Rattle.device_library.proofs.CallEnd.{memory-call}
+use Rattle.device_library.{specs.Call.files_named, proofs.CallEnd.memory-call}
 use Rattle.device_library.proofs.call.call.Goals as goal
 
 pub returns-in-Err-given_files-clause-call : goal.returns-in-Err-given_files-clause-call

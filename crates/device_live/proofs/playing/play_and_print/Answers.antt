@@ -3,8 +3,7 @@ use Rattle.outside_edge.specs.declared.sink.Failed.{Failed}
 use Rattle.device_trace.specs.Trace.{play_of}
 use Rattle.device_core.specs.Device.{steps_made}
 use Rattle.device_play.proofs.WatchedPlay.{length-play_of}
-use Rattle.device_live.specs.Life.{events_in}
-use Rattle.device_live.proofs.Played.{begins, ends, fails, goes-on, shown-device, stops}
+use Rattle.device_live.{specs.Life.events_in, proofs.Played.{begins, ends, fails, goes-on, shown-device, stops}}
 use Rattle.device_live.proofs.playing.play_and_print.Goals as goal
 
 pub loop-playback-init : goal.loop-playback-init

@@ -1,8 +1,7 @@
 use Rattle.std.proofs.Common.{◌≡◌, ◌≤◌, ◌-◌}
 use Rattle.device_trace.specs.Start.{Start}
 use Rattle.device_core.specs.Device.{LiveStandsFor, steps_made}
-use Rattle.device_live.specs.{Life.{Life, play_lived}, Living.KeepsToCome}
-use Rattle.device_live.proofs.Played.{IsOnWay}
+use Rattle.device_live.{specs.{Life.{Life, play_lived}, Living.KeepsToCome}, proofs.Played.IsOnWay}
 use Rattle.device_live.proofs.playing.play_and_print.Given as goal
 
 -- no fault was counted, and the device is on its way

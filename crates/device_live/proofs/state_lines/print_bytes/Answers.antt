@@ -1,9 +1,7 @@
-use Rattle.std.proofs.Common.{◌≡◌, ◌<◌, ◌∙◌, ◌++◌, ◌∷◌, ap, arith, codes, length, subst, sym}
-use Rattle.std.proofs.lemmas.Bool.Decides.{nat_tests}
+use Rattle.std.proofs.{Common.{◌≡◌, ◌<◌, ◌∙◌, ◌++◌, ◌∷◌, ap, arith, codes, length, subst, sym}, lemmas.Bool.Decides.nat_tests}
 use Rattle.device_types.specs.Address.{Bytes}
 use Rattle.hex.specs.Hex.{encode_lower}
-use Rattle.outside_edge.specs.Sink.{Puts, TakesPrefix}
-use Rattle.outside_edge.proofs.SinkLemmas.{prefix_of_more, puts-failed, puts_after}
+use Rattle.outside_edge.{specs.Sink.{Puts, TakesPrefix}, proofs.SinkLemmas.{prefix_of_more, puts-failed, puts_after}}
 use Rattle.printed_lines.specs.Line.{word_digits}
 use Rattle.device_live.proofs.MemoryParts.{memory-parts, memory_head}
 use Rattle.device_live.proofs.state_lines.print_bytes.Goals as goal

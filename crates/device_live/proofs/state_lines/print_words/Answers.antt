@@ -1,5 +1,4 @@
-use Rattle.std.proofs.Common.{◌≡◌, ◌∙◌, ◌++◌, [], ap, arith, codes, drop, map, subst}
-use Rattle.std.proofs.lemmas.List.{drop_all}
+use Rattle.std.proofs.{Common.{◌≡◌, ◌∙◌, ◌++◌, [], ap, arith, codes, drop, map, subst}, lemmas.List.drop_all}
 use Rattle.device_types.specs.Address.{Bytes}
 use Rattle.outside_edge.specs.Sink.{Puts}
 use Rattle.printed_lines.specs.Line.{with_pieces, word_digits}

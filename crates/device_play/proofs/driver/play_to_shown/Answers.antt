@@ -1,9 +1,7 @@
 use Rattle.std.proofs.Common.{◌≡◌, ◌≤◌, ◌<◌, ◌+◌, ◌∙◌, ◌-◌, ◌∷◌, [], ℕ, suc, false, refl, sym, subst, arith, rules}
 use Rattle.device_trace.specs.Trace.{Play, logs_after, play_of}
-use Rattle.device_core.specs.{Device.{LiveStandsFor, steps_made}, Quiet.{AreOpen, AreQuiet, IsOpen, IsQuiet}}
-use Rattle.device_core.proofs.QuietSteps.{kept-some}
-use Rattle.device_play.specs.Midway.{IsQuietIn}
-use Rattle.device_play.proofs.WatchedPlay.{each-in-play, idle-play}
+use Rattle.device_core.{specs.{Device.{LiveStandsFor, steps_made}, Quiet.{AreOpen, AreQuiet, IsOpen, IsQuiet}}, proofs.QuietSteps.kept-some}
+use Rattle.device_play.{specs.Midway.IsQuietIn, proofs.WatchedPlay.{each-in-play, idle-play}}
 use Rattle.device_play.proofs.driver.play_to_shown.Goals as goal
 
 pub returns-then-next-step-clause-plays : goal.returns-then-next-step-clause-plays

@@ -1,6 +1,5 @@
 use Rattle.std.proofs.Common.{◌∙◌, Some, option_map, ap, sym, rules, arith}
-use Rattle.device_play.specs.TraceLine.{value_shown}
-use Rattle.device_play.proofs.TracedStep.{told_line}
+use Rattle.device_play.{specs.TraceLine.value_shown, proofs.TracedStep.told_line}
 use Rattle.device_play.proofs.traced_line.last_trace_line.Goals as goal
 
 pub returns-clause-line : goal.returns-clause-line

@@ -1,5 +1,4 @@
-use Rattle.std.proofs.Common.{◌∙◌, ℕ, false, Some, ap, sym}
-use Rattle.std.specs.Prelude.{option_copied}
+use Rattle.std.{proofs.Common.{◌∙◌, ℕ, false, Some, ap, sym}, specs.Prelude.option_copied}
 use Rattle.device_play.proofs.TracedStep.{made-proposal, refused-proposal}
 use Rattle.device_play.proofs.traced_line.proposal_of_last.Goals as goal
 

@@ -1,5 +1,4 @@
-use Rattle.std.proofs.Common.{refl}
-use Rattle.std.specs.Fmt.{digits}
+use Rattle.std.{proofs.Common.refl, specs.Fmt.digits}
 use Rattle.hex.specs.Hex.{encode_with}
 use Rattle.word_arith.specs.{Op2.alu_result, Op1.shift_result}
 use Rattle.msp_decode.specs.Head.{head_of}

@@ -1,5 +1,4 @@
-use Rattle.std.proofs.Common.{◌≡◌, ◌∙◌, ◌/◌, length, take, min, sym, arith, length-take}
-use Rattle.std.proofs.lemmas.Result.{err_from_is_err_and}
+use Rattle.std.proofs.{Common.{◌≡◌, ◌∙◌, ◌/◌, length, take, min, sym, arith, length-take}, lemmas.Result.err_from_is_err_and}
 use Rattle.text_scan.specs.Hexadecimal.{hex_bytes_of}
 use Rattle.hex_loader.proofs.Digits.{record_or_fault-room, err_read, ok_read}
 use Rattle.hex_loader.proofs.hex_record.record_of_digits.Goals as goal

@@ -1,9 +1,6 @@
-use Rattle.std.proofs.Common.{◌≡◌, ◌∙◌, refl, arith}
-use Rattle.std.proofs.lemmas.List.{append-nil}
+use Rattle.std.proofs.{Common.{◌≡◌, ◌∙◌, refl, arith}, lemmas.{List.append-nil, Result.err_from_is_err_and}}
 use Rattle.outside_edge.proofs.SinkLemmas.{takes_both, puts_after}
-use Rattle.hex_loader.specs.HexText.{lines_below, line_at, end_line}
-use Rattle.hex_loader.proofs.WritePieces.{lines_below-next, prefix_in_text}
-use Rattle.std.proofs.lemmas.Result.{err_from_is_err_and}
+use Rattle.hex_loader.{specs.HexText.{lines_below, line_at, end_line}, proofs.WritePieces.{lines_below-next, prefix_in_text}}
 use Rattle.hex_loader.proofs.hex_text.write_places.Goals as goal
 
 pub loop-place-init : goal.loop-place-init

@@ -1,6 +1,5 @@
 use Rattle.std.proofs.Common.{arith, sym, ◌∙◌, ◌-◌, ◌%◌}
-use Rattle.hex_loader.specs.HexText.{record_bytes}
-use Rattle.hex_loader.proofs.WritePieces.{run-more, run-end}
+use Rattle.hex_loader.{specs.HexText.record_bytes, proofs.WritePieces.{run-more, run-end}}
 use Rattle.hex_loader.proofs.places.record_bytes.Goals as goal
 
 pub returns-in_default : goal.returns-in_default

@@ -1,7 +1,6 @@
 use Rattle.std.proofs.Common.{◌≡◌, ◌∙◌, true, sym, arith}
 use Rattle.part_definitions.specs.Memory.{is_image_place}
-use Rattle.mem_map.specs.Image.{byte_in}
-use Rattle.mem_map.proofs.PlacedBytes.{byte_among-more}
+use Rattle.mem_map.{specs.Image.byte_in, proofs.PlacedBytes.byte_among-more}
 use Rattle.hex_loader.proofs.Placing.{are_image_places-more}
 use Rattle.hex_loader.proofs.reader.set_bytes.Goals as goal
 

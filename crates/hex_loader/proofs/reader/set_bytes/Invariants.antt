@@ -1,5 +1,4 @@
-use Rattle.std.proofs.Common.{◌≡◌, ◌+◌, ℕ, drop}
-use Rattle.std.specs.Option.{option_or}
+use Rattle.std.{proofs.Common.{◌≡◌, ◌+◌, ℕ, drop}, specs.Option.option_or}
 use Rattle.mem_map.specs.Image.{byte_in, byte_among}
 use Rattle.hex_loader.specs.HexImage.{are_image_places}
 use Rattle.hex_loader.proofs.reader.set_bytes.Given as goal

@@ -1,5 +1,4 @@
-use Rattle.std.proofs.Common.{◌≡◌, take}
-use Rattle.std.specs.Str.{bytes_eq}
+use Rattle.std.{proofs.Common.{◌≡◌, take}, specs.Str.bytes_eq}
 use Rattle.hmac_core.proofs.byte_comparison.same_bytes.Given as goal
 
 -- whether the bytes so far are equal

@@ -1,8 +1,4 @@
-use Rattle.std.proofs.Common.{refl, rules}
-use Rattle.std.specs.Vec.Iter.{into_iter_items, into_iter_len}
-use Rattle.std.specs.declared.alloc.AllocError.{AllocError}
-use Rattle.std.proofs.lemmas.Iterator.{items_from_collect}
-use Rattle.std.proofs.lemmas.Iterator.Adapters.{YieldsList-from_vec}
+use Rattle.std.{proofs.{Common.{refl, rules}, lemmas.Iterator.{items_from_collect, Adapters.YieldsList-from_vec}}, specs.{Vec.Iter.{into_iter_items, into_iter_len}, declared.alloc.AllocError.AllocError}}
 use Rattle.input_files.proofs.WordsBehind.{words-behind}
 use Rattle.input_files.proofs.command_line.behind_name.Goals as goal
 

@@ -1,13 +1,11 @@
-use Rattle.std.proofs.Common.{◌≡◌, ◌∙◌, ℕ, List, [], ◌∷◌, ap, append-nil, refl}
-use Rattle.std.specs.Fmt.{digits}
+use Rattle.std.{proofs.Common.{◌≡◌, ◌∙◌, ℕ, List, [], ◌∷◌, ap, append-nil, refl}, specs.Fmt.digits}
 use Rattle.hex.specs.Hex.{encode_with}
 use Rattle.word_arith.specs.{Op2.alu_result, Op1.shift_result}
 use Rattle.msp_decode.specs.Head.{head_of}
 use Rattle.part_definitions.specs.{Attestation.call_items, FirstRule.first_rule, Hmac.Digest, NextAccess.{next_access, entry_access}, MonitorRule.{key_rule, atomicity_rule}, TrustedFlag.aux}
 use Rattle.device_types.specs.{Address.Bytes, ExecFlag.exec}
 use Rattle.device_trace.specs.{Example.upwards, Logs.{with_events, with_record}, Signals.signals_at, Start.{with_key, without_key}, Step.{record_of, next_record}, Text.{lines_of, play_text}, Trace.{logs_after, released_words}}
-use Rattle.key_isolation.specs.{AttestedPlay.{attested_text, attested_words, attesting_start, requested_image}, Example.whole_call}
-use Rattle.key_isolation.proofs.{CallDigests.{call_rows, looked_up, sha256-by_rows}, TwoKeys.looks_keyless}
+use Rattle.key_isolation.{specs.{AttestedPlay.{attested_text, attested_words, attesting_start, requested_image}, Example.whole_call}, proofs.{CallDigests.{call_rows, looked_up, sha256-by_rows}, TwoKeys.looks_keyless}}
 use Rattle.key_isolation.proofs.example.attested_play_looks_keyless.Goals as goal
 
 -- what the calls release with this key

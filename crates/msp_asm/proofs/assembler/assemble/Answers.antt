@@ -1,6 +1,5 @@
 use Rattle.std.proofs.Common.{rules}
-use Rattle.msp_asm.specs.HasBytes.{HasBytesOf, HasInstructionOf}
-use Rattle.msp_asm.proofs.HasBytes.{of_image}
+use Rattle.msp_asm.{specs.HasBytes.{HasBytesOf, HasInstructionOf}, proofs.HasBytes.of_image}
 use Rattle.msp_asm.proofs.assembler.assemble.Goals as goal
 
 pub returns-in-Ok-clause-placed : goal.returns-in-Ok-clause-placed

@@ -1,8 +1,6 @@
-use Rattle.std.proofs.Common.{◌∙◌, ap, sym, subst, Err, reverse, take}
-use Rattle.std.specs.Result.{result_err}
+use Rattle.std.{proofs.Common.{◌∙◌, ap, sym, subst, Err, reverse, take}, specs.Result.result_err}
 use Rattle.mem_map.specs.Image.{byte_in}
-use Rattle.msp_asm.specs.{Value.{Scope, scope_in}, Statement.bytes_of, SecondPass.{byte_placed, second_pass_fault}, FirstPassState.AnswersFault}
-use Rattle.msp_asm.proofs.{LinesSoFar.{earlier_more, sound_more, fault_of_all}, SecondPassMore.{layout-scope, placed_more}}
+use Rattle.msp_asm.{specs.{Value.{Scope, scope_in}, Statement.bytes_of, SecondPass.{byte_placed, second_pass_fault}, FirstPassState.AnswersFault}, proofs.{LinesSoFar.{earlier_more, sound_more, fault_of_all}, SecondPassMore.{layout-scope, placed_more}}}
 use Rattle.msp_asm.proofs.assembly.image_of.Goals as goal
 
 pub returns-in-Err-place_statement-clause-fault : goal.returns-in-Err-place_statement-clause-fault

@@ -1,6 +1,5 @@
 use Rattle.std.proofs.Common.{◌∙◌, ◌+◌, ap, sym, subst, ℕ, reverse, take}
-use Rattle.msp_asm.specs.{Value.Scope, FirstPass.{scope_after, first_pass_fault}, FirstPassStands.FirstPassStandsFor}
-use Rattle.msp_asm.proofs.LinesSoFar.{earlier_more, sound_more, fault_of_all, places_more}
+use Rattle.msp_asm.{specs.{Value.Scope, FirstPass.{scope_after, first_pass_fault}, FirstPassStands.FirstPassStandsFor}, proofs.LinesSoFar.{earlier_more, sound_more, fault_of_all, places_more}}
 use Rattle.msp_asm.proofs.assembly.names_and_places.Goals as goal
 
 pub returns-in-Err-take-clause-fault : goal.returns-in-Err-take-clause-fault

@@ -1,5 +1,4 @@
-use Rattle.std.proofs.Common.{◌≡◌, ◌+◌, ℕ, IsTrue, drop}
-use Rattle.std.specs.Option.{option_or}
+use Rattle.std.{proofs.Common.{◌≡◌, ◌+◌, ℕ, IsTrue, drop}, specs.Option.option_or}
 use Rattle.part_definitions.specs.Memory.{is_image_place}
 use Rattle.mem_map.specs.Image.{byte_in, byte_among}
 use Rattle.msp_asm.proofs.image_writer.place_bytes.Given as goal

@@ -1,10 +1,7 @@
-use Rattle.std.proofs.Common.{◌≡◌, ◌∙◌, refl, arith}
-use Rattle.std.proofs.lemmas.List.{append-nil}
-use Rattle.std.proofs.lemmas.Result.{err_from_is_err_and}
+use Rattle.std.proofs.{Common.{◌≡◌, ◌∙◌, refl, arith}, lemmas.{List.append-nil, Result.err_from_is_err_and}}
 use Rattle.mem_map.specs.Image.{byte_in}
 use Rattle.outside_edge.proofs.SinkLemmas.{takes_both}
-use Rattle.msp_asm.specs.Listing.{items_below, listing_lines, line_at}
-use Rattle.msp_asm.proofs.NextLines.{item_there, listing_lines-next, place_after-next, prefix_in_listing}
+use Rattle.msp_asm.{specs.Listing.{items_below, listing_lines, line_at}, proofs.NextLines.{item_there, listing_lines-next, place_after-next, prefix_in_listing}}
 use Rattle.msp_asm.proofs.listing_writer.write_listing.Goals as goal
 
 pub loop-place-init : goal.loop-place-init

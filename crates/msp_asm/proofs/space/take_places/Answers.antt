@@ -1,8 +1,6 @@
-use Rattle.std.proofs.Common.{arith}
-use Rattle.std.specs.List.{list_all, list_any}
+use Rattle.std.{proofs.Common.arith, specs.List.{list_all, list_any}}
 use Rattle.part_definitions.specs.Memory.{is_image_place}
-use Rattle.msp_asm.specs.{FirstPass.places_from, FirstPassState.occupies}
-use Rattle.msp_asm.proofs.PlacesLeft.{all_next, any_next, taken_next, before_next}
+use Rattle.msp_asm.{specs.{FirstPass.places_from, FirstPassState.occupies}, proofs.PlacesLeft.{all_next, any_next, taken_next, before_next}}
 use Rattle.msp_asm.proofs.space.take_places.Goals as goal
 
 pub loop-step-preserved : goal.loop-step-preserved

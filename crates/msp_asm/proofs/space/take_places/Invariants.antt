@@ -1,5 +1,4 @@
-use Rattle.std.proofs.Common.{◌≡◌, ◌≤◌, ◌+◌, ◌-◌, ◌||◌, ℕ}
-use Rattle.std.specs.List.{list_all, list_any}
+use Rattle.std.{proofs.Common.{◌≡◌, ◌≤◌, ◌+◌, ◌-◌, ◌||◌, ℕ}, specs.List.{list_all, list_any}}
 use Rattle.part_definitions.specs.Memory.{is_image_place}
 use Rattle.msp_asm.specs.{FirstPass.{places_from, is_among}, FirstPassState.occupies}
 use Rattle.msp_asm.proofs.space.take_places.Given as goal

@@ -1,7 +1,5 @@
-use Rattle.std.proofs.Common.{arith, ◌≡◌, ◌∙◌, ◌++◌, ◌+◌, ◌<◌, ap, sym, length, flat_map, drop, get_or}
-use Rattle.msp_asm.specs.Statement.{word_bytes}
-use Rattle.std.proofs.lemmas.Option.{get_or_from_slice_get}
-use Rattle.msp_asm.proofs.Lists.{words_more}
+use Rattle.std.proofs.{Common.{arith, ◌≡◌, ◌∙◌, ◌++◌, ◌+◌, ◌<◌, ap, sym, length, flat_map, drop, get_or}, lemmas.Option.get_or_from_slice_get}
+use Rattle.msp_asm.{specs.Statement.word_bytes, proofs.Lists.words_more}
 use Rattle.msp_asm.proofs.statement_bytes.push_instruction.Goals as goal
 
 pub unreachable-requires : goal.unreachable-requires

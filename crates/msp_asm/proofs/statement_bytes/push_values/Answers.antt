@@ -1,9 +1,7 @@
-use Rattle.std.proofs.Common.{rules, get_or, pos}
-use Rattle.std.proofs.lemmas.Int.{to_z-of_z}
+use Rattle.std.proofs.{Common.{rules, get_or, pos}, lemmas.Int.to_z-of_z}
 use mir.Syntax.{w128}
 use mir.Val.{SFits, to_z, of_z}
-use Rattle.msp_asm.specs.Statement.{all_bytes}
-use Rattle.msp_asm.proofs.Lists.{value_added, value_refused}
+use Rattle.msp_asm.{specs.Statement.all_bytes, proofs.Lists.{value_added, value_refused}}
 use Rattle.msp_asm.proofs.statement_bytes.push_values.Goals as goal
 
 pub returns-in-Err : goal.returns-in-Err

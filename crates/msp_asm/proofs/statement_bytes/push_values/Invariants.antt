@@ -1,6 +1,5 @@
 use Rattle.std.proofs.Common.{◌≡◌, ◌++◌, ℕ, List, drop}
-use Rattle.msp_asm.specs.Statement.{all_bytes}
-use Rattle.msp_asm.proofs.Lists.{with_prefix}
+use Rattle.msp_asm.{specs.Statement.all_bytes, proofs.Lists.with_prefix}
 use Rattle.msp_asm.proofs.statement_bytes.push_values.Given as goal
 
 abbrev pub invariant-loop-value : goal.invariant-loop-value

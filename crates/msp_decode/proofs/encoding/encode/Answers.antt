@@ -1,6 +1,5 @@
 use Rattle.std.proofs.Common.{◌≡◌, ◌∙◌, ℕ, List, None, ap, sym, subst, rules}
-use Rattle.msp_decode.specs.{Completion.{head_part, words_of}, EncodeFault.first_fault, Law.AreReadAs}
-use Rattle.msp_decode.proofs.WordLemmas.{words_are_read}
+use Rattle.msp_decode.{specs.{Completion.{head_part, words_of}, EncodeFault.first_fault, Law.AreReadAs}, proofs.WordLemmas.words_are_read}
 use Rattle.msp_decode.proofs.encoding.encode.Goals as goal
 
 pub returns-in-None-clause-read : goal.returns-in-None-clause-read

@@ -1,5 +1,4 @@
-use Rattle.std.proofs.Common.{◌++◌, ◌∷◌}
-use Rattle.std.specs.Prelude.{codes}
+use Rattle.std.{proofs.Common.{◌++◌, ◌∷◌}, specs.Prelude.codes}
 use Rattle.hex.specs.Hex.{encode_lower}
 use Rattle.outside_edge.proofs.SinkLemmas.{prefix_of_more, puts_after, puts-failed}
 use Rattle.report_text.proofs.collision_line.print_lists.Goals as goal

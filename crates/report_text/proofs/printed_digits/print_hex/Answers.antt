@@ -1,8 +1,6 @@
-use Rattle.std.proofs.Common.{◌++◌, ℕ, List, sym, ◌∙◌, ap, append_assoc}
-use Rattle.std.proofs.Math.Path.{subst}
+use Rattle.std.proofs.{Common.{◌++◌, ℕ, List, sym, ◌∙◌, ap, append_assoc}, Math.Path.subst}
 use Rattle.hex.specs.Hex.{encode_lower}
-use Rattle.outside_edge.specs.Sink.{TakesPrefix}
-use Rattle.outside_edge.proofs.SinkLemmas.{prefix_after, prefix_of_more, puts_after, puts-failed, takes_both}
+use Rattle.outside_edge.{specs.Sink.TakesPrefix, proofs.SinkLemmas.{prefix_after, prefix_of_more, puts_after, puts-failed, takes_both}}
 use Rattle.report_text.proofs.HexPieces.{encode_lower-pieces}
 use Rattle.report_text.proofs.printed_digits.print_hex.Goals as goal
 

@@ -1,6 +1,4 @@
-use Rattle.std.proofs.Common.{◌++◌, ◌∷◌, ℕ, List, rules}
-use Rattle.std.specs.Prelude.{codes}
-use Rattle.std.specs.Fmt.{decimal}
+use Rattle.std.{proofs.Common.{◌++◌, ◌∷◌, ℕ, List, rules}, specs.{Prelude.codes, Fmt.decimal}}
 use Rattle.device_types.specs.Report.{fields_of}
 use Rattle.printed_lines.specs.Line.{flag_digit, report_keyword, version_pieces}
 use Rattle.line_buffer.proofs.PieceLines.{with_pieces-append}

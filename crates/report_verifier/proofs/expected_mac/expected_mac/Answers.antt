@@ -2,8 +2,7 @@ use Rattle.std.proofs.Common.{rules, ◌∙◌, ap, sym, ◌++◌, List, ℕ}
 use Rattle.device_types.specs.Report.{fields_of}
 use Rattle.mem_map.specs.Image.{byte_in}
 use Rattle.part_definitions.specs.{Attestation.derived_key, Hmac.hmac}
-use Rattle.report_verifier.specs.Expectation.{expected_metadata, image_code}
-use Rattle.report_verifier.proofs.Acceptance.{take-chal}
+use Rattle.report_verifier.{specs.Expectation.{expected_metadata, image_code}, proofs.Acceptance.take-chal}
 use Rattle.report_verifier.proofs.expected_mac.expected_mac.Goals as goal
 
 pub returns : goal.returns

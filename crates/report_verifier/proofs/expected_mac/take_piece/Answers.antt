@@ -1,5 +1,4 @@
-use Rattle.std.proofs.Common.{◌∙◌, ◌-◌, ◌++◌, List, ℕ, ap, arith, length}
-use Rattle.std.proofs.Math.Path.{subst}
+use Rattle.std.proofs.{Common.{◌∙◌, ◌-◌, ◌++◌, List, ℕ, ap, arith, length}, Math.Path.subst}
 use Rattle.hmac_core.specs.Hmac.{HmacStandsFor}
 use Rattle.mem_map.specs.Image.{byte_in, image_byte}
 use Rattle.part_definitions.specs.Memory.{bytes_from}

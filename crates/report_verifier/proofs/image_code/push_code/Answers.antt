@@ -1,5 +1,4 @@
-use Rattle.std.proofs.Common.{arith, rules, ◌≡◌, ◌-◌, ◌++◌}
-use Rattle.std.proofs.Math.Path.{subst}
+use Rattle.std.proofs.{Common.{arith, rules, ◌≡◌, ◌-◌, ◌++◌}, Math.Path.subst}
 use Rattle.mem_map.specs.Image.{byte_in, image_byte}
 use Rattle.part_definitions.specs.Memory.{bytes_from}
 use Rattle.report_verifier.proofs.{CodeBytes.append-none, Pushes.byte-pushed}

@@ -1,6 +1,5 @@
 use Rattle.std.proofs.Common.{◌≡◌, ◌∙◌, ◌++◌, ap, List, ℕ, length, rules}
-use Rattle.report_verifier.specs.Expectation.{version_one_metadata, request_metadata}
-use Rattle.report_verifier.proofs.Acceptance.{length-first}
+use Rattle.report_verifier.{specs.Expectation.{version_one_metadata, request_metadata}, proofs.Acceptance.length-first}
 use Rattle.report_verifier.proofs.metadata.expected_metadata.Goals as goal
 
 pub returns-clause-metadata : goal.returns-clause-metadata

@@ -1,6 +1,4 @@
-use Rattle.std.proofs.Common.{◌+◌, arith, take, drop, length-drop, length-take, List, ℕ}
-use Rattle.std.proofs.lemmas.List.{take_rest}
-use Rattle.std.proofs.lemmas.Result.{err_from_is_err_and}
+use Rattle.std.proofs.{Common.{◌+◌, arith, take, drop, length-drop, length-take, List, ℕ}, lemmas.{List.take_rest, Result.err_from_is_err_and}}
 use Rattle.source_server.proofs.LineLemmas.{line_more, none_answered, piece_stopped, piece_told, plain_front, split_at_end}
 use Rattle.source_server.proofs.lines.answer_lines.Goals as goal
 

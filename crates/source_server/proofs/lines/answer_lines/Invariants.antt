@@ -1,6 +1,5 @@
 use Rattle.std.proofs.Common.{◌≤◌, length}
-use Rattle.source_server.proofs.LineLemmas.{IsAnsweredTo}
-use Rattle.source_server.specs.Responder.{Moment}
+use Rattle.source_server.{proofs.LineLemmas.IsAnsweredTo, specs.Responder.Moment}
 use Rattle.source_server.proofs.lines.answer_lines.Given as goal
 
 abbrev pub decreases-loop-end : goal.decreases-loop-end

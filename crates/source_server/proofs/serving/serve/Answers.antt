@@ -1,5 +1,4 @@
-use Rattle.std.proofs.Common.{◌≡◌, ◌<◌, ◌-◌, arith}
-use Rattle.std.proofs.lemmas.Bool.Decides.{nat_tests}
+use Rattle.std.proofs.{Common.{◌≡◌, ◌<◌, ◌-◌, arith}, lemmas.Bool.Decides.nat_tests}
 use Rattle.source_server.proofs.ServedPieces.{fault_served, none_taken, piece_served, piece_stopped, spent_served}
 use Rattle.source_server.proofs.serving.serve.Goals as goal
 

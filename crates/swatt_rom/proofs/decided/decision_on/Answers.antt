@@ -1,5 +1,4 @@
-use Rattle.std.proofs.Common.{◌∙◌, ap, sym, rules}
-use Rattle.std.specs.Str.{bytes_eq}
+use Rattle.std.{proofs.Common.{◌∙◌, ap, sym, rules}, specs.Str.bytes_eq}
 use Rattle.part_definitions.specs.Metadata.{token_in}
 use Rattle.swatt_rom.proofs.Decisions.{token_differs}
 use Rattle.swatt_rom.proofs.decided.decision_on.Goals as goal

@@ -1,5 +1,4 @@
-use Rattle.std.proofs.Common.{◌-◌, length, drop, arith}
-use Rattle.std.proofs.lemmas.List.{take_all, length-drop}
+use Rattle.std.proofs.{Common.{◌-◌, length, drop, arith}, lemmas.List.{take_all, length-drop}}
 use Rattle.swatt_rom.proofs.decided.token_of.Goals as goal
 
 pub returns-clause-token : goal.returns-clause-token

@@ -1,5 +1,4 @@
-use Rattle.std.proofs.Common.{refl}
-use Rattle.std.specs.Prelude.{option_copied}
+use Rattle.std.{proofs.Common.refl, specs.Prelude.option_copied}
 use Rattle.trace_files.proofs.Others.{any_in_two}
 use Rattle.trace_files.proofs.change.has_change.Goals as goal
 

@@ -1,6 +1,5 @@
 use Rattle.std.specs.Prelude.{Some}
-use Rattle.trace_files.specs.Wire.{port_wires, state_wires}
-use Rattle.trace_files.proofs.Others.{untold_both}
+use Rattle.trace_files.{specs.Wire.{port_wires, state_wires}, proofs.Others.untold_both}
 use Rattle.trace_files.proofs.change.has_same_others.Goals as goal
 
 pub returns-then-has_same_state : goal.returns-then-has_same_state

@@ -1,6 +1,5 @@
 use Rattle.std.specs.Prelude.{Some}
-use Rattle.trace_files.specs.Wire.{flag_wires, register_wires}
-use Rattle.trace_files.proofs.Others.{untold_both}
+use Rattle.trace_files.{specs.Wire.{flag_wires, register_wires}, proofs.Others.untold_both}
 use Rattle.trace_files.proofs.change.has_same_state.Goals as goal
 
 pub returns-then-has_same_registers : goal.returns-then-has_same_registers

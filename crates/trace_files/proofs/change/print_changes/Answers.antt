@@ -1,8 +1,6 @@
-use Rattle.std.proofs.Common.{append-nil}
-use Rattle.std.specs.Prelude.{option_copied}
+use Rattle.std.{proofs.Common.append-nil, specs.Prelude.option_copied}
 use Rattle.outside_edge.proofs.SinkLemmas.{prefix_of_more, puts_after, puts-failed}
-use Rattle.trace_files.specs.{Wire.{line_wires, other_wires}, WaveText.wires_text}
-use Rattle.trace_files.proofs.Others.{text_in_two, untold_text}
+use Rattle.trace_files.{specs.{Wire.{line_wires, other_wires}, WaveText.wires_text}, proofs.Others.{text_in_two, untold_text}}
 use Rattle.trace_files.proofs.change.print_changes.Goals as goal
 
 pub returns-in_err-print_wires-clause-puts : goal.returns-in_err-print_wires-clause-puts

@@ -1,11 +1,6 @@
-use Rattle.std.proofs.Common.{◌∙◌, ◌++◌, ℕ, List, suc, take, drop, get_or, subst, sym, arith}
-use Rattle.std.specs.Prelude.{option_copied}
-use Rattle.std.specs.List.{flat_map}
-use Rattle.std.proofs.lemmas.List.{take_all}
-use Rattle.outside_edge.specs.Sink.{Takes, TakesPrefix}
-use Rattle.outside_edge.proofs.SinkLemmas.{prefix_after, prefix_of_more, puts-failed, takes_both}
-use Rattle.trace_files.specs.{declared.wire.Wire.{Wire, TheVariants.Pc}, WaveText.{change_of, wires_text}}
-use Rattle.trace_files.proofs.Pieces.{flat_map_cut, flat_map_next}
+use Rattle.std.{proofs.{Common.{◌∙◌, ◌++◌, ℕ, List, suc, take, drop, get_or, subst, sym, arith}, lemmas.List.take_all}, specs.{Prelude.option_copied, List.flat_map}}
+use Rattle.outside_edge.{specs.Sink.{Takes, TakesPrefix}, proofs.SinkLemmas.{prefix_after, prefix_of_more, puts-failed, takes_both}}
+use Rattle.trace_files.{specs.{declared.wire.Wire.{Wire, TheVariants.Pc}, WaveText.{change_of, wires_text}}, proofs.Pieces.{flat_map_cut, flat_map_next}}
 use Rattle.trace_files.proofs.change.print_wires.Goals as goal
 
 pub loop-wire-preserved : goal.loop-wire-preserved

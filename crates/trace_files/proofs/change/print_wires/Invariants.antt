@@ -1,5 +1,4 @@
-use Rattle.std.proofs.Common.{◌≡◌, take}
-use Rattle.std.specs.Prelude.{option_copied}
+use Rattle.std.{proofs.Common.{◌≡◌, take}, specs.Prelude.option_copied}
 use Rattle.outside_edge.specs.Sink.{Takes}
 use Rattle.trace_files.specs.WaveText.{wires_text}
 use Rattle.trace_files.proofs.change.print_wires.Given as goal

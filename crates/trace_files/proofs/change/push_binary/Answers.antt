@@ -1,5 +1,4 @@
-use Rattle.std.proofs.Common.{◌∙◌, ap, length, length-append, false, arith}
-use Rattle.std.specs.Fmt.{digits}
+use Rattle.std.{proofs.Common.{◌∙◌, ap, length, length-append, false, arith}, specs.Fmt.digits}
 use Rattle.trace_files.proofs.Binary.{few_digits}
 use Rattle.trace_files.proofs.change.push_binary.Goals as goal
 

@@ -1,8 +1,6 @@
-use Rattle.std.proofs.Common.{◌∙◌, ap, sym, Ok}
-use Rattle.std.proofs.lemmas.Result.{err_from_is_err_and}
+use Rattle.std.proofs.{Common.{◌∙◌, ap, sym, Ok}, lemmas.Result.err_from_is_err_and}
 use Rattle.text_scan.specs.Reader.{value_as}
-use Rattle.trace_files.specs.AuditText.{audit_of_lines}
-use Rattle.trace_files.proofs.FileAudit.{is_empty-length, seen-none, seen-passed, seen-line, seen-fault, seen-end}
+use Rattle.trace_files.{specs.AuditText.audit_of_lines, proofs.FileAudit.{is_empty-length, seen-none, seen-passed, seen-line, seen-fault, seen-end}}
 use Rattle.trace_files.proofs.file_audit.audit_file.Goals as goal
 
 pub loop-number-init : goal.loop-number-init

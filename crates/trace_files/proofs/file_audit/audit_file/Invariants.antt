@@ -1,7 +1,6 @@
 use Rattle.std.proofs.Common.{[]}
 use Rattle.text_scan.specs.LineFold.{text_lines}
-use Rattle.trace_files.specs.LineGrammar.{lines_after}
-use Rattle.trace_files.proofs.FileAudit.{HasSeen}
+use Rattle.trace_files.{specs.LineGrammar.lines_after, proofs.FileAudit.HasSeen}
 use Rattle.trace_files.proofs.file_audit.audit_file.Given as goal
 
 -- the lines so far were seen, and the rest of them is left

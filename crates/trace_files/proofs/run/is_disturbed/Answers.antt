@@ -1,7 +1,6 @@
 use Rattle.std.proofs.Common.{◌∙◌, sym, ap}
 use Rattle.device_types.specs.{declared.region.Region.Region, Map.lies_in}
-use Rattle.trace_files.specs.Clean.{seen_in}
-use Rattle.trace_files.proofs.Clearing.{clears_inside, clears_outside}
+use Rattle.trace_files.{specs.Clean.seen_in, proofs.Clearing.{clears_inside, clears_outside}}
 use Rattle.trace_files.proofs.run.is_disturbed.Goals as goal
 
 pub returns-then-has : goal.returns-then-has

@@ -1,5 +1,4 @@
-use Rattle.std.proofs.Common.{◌≡◌, ◌<◌, ℕ, vec_len}
-use Rattle.std.specs.Prelude.{slice_index_or}
+use Rattle.std.{proofs.Common.{◌≡◌, ◌<◌, ℕ, vec_len}, specs.Prelude.slice_index_or}
 use Rattle.desk_memory.specs.{declared.device_state.DeviceState.DeviceState, Entry.{last_in, state_under}, KeyMark.key_mark}
 use Rattle.sha2.specs.Sha256.{sha256}
 use Rattle.verifier_desk.specs.DeviceKey.{DeviceKey}

@@ -1,5 +1,4 @@
-use Rattle.std.proofs.Common.{rules, ◌+◌, ℕ, List, refl, sym, subst, Contains}
-use Rattle.std.proofs.lemmas.Bool.{false≢true}
+use Rattle.std.proofs.{Common.{rules, ◌+◌, ℕ, List, refl, sym, subst, Contains}, lemmas.Bool.false≢true}
 use Rattle.sha2.specs.Sha256.{sha256}
 use Rattle.verifier_desk.proofs.KeyMarks.{AreMarks, IsAt, apart_before, is_at, is_taken, next_marks, stands_apart}
 use Rattle.verifier_desk.proofs.key_owner.first_taken.Goals as goal

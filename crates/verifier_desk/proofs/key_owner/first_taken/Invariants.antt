@@ -1,6 +1,5 @@
 use Rattle.sha2.specs.Sha256.{sha256}
-use Rattle.verifier_desk.specs.KeyOwner.{StandApartBefore}
-use Rattle.verifier_desk.proofs.KeyMarks.{AreMarks}
+use Rattle.verifier_desk.{specs.KeyOwner.StandApartBefore, proofs.KeyMarks.AreMarks}
 use Rattle.verifier_desk.proofs.key_owner.first_taken.Given as goal
 
 abbrev pub invariant-loop-place : goal.invariant-loop-place

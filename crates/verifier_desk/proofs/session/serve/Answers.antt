@@ -1,6 +1,5 @@
 use Rattle.std.proofs.Common.{◌∙◌, ap, refl}
-use Rattle.verifier_desk.specs.declared.desk_responder.DeskResponder.{DeskResponder}
-use Rattle.verifier_desk.proofs.{DeskServed.{begins_with, desk_served, lacks_served}, MoreLines.grows_self}
+use Rattle.verifier_desk.{specs.declared.desk_responder.DeskResponder.DeskResponder, proofs.{DeskServed.{begins_with, desk_served, lacks_served}, MoreLines.grows_self}}
 use Rattle.verifier_desk.proofs.session.serve.Goals as goal
 
 pub returns-in_default-clause-serves : goal.returns-in_default-clause-serves

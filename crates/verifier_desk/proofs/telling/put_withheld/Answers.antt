@@ -1,7 +1,6 @@
 use Rattle.std.proofs.Common.{subst}
 use Rattle.outside_edge.specs.Sink.{Takes, TakesPrefix}
-use Rattle.verifier_desk.specs.Noted.{entries_after}
-use Rattle.verifier_desk.proofs.HeldReplies.{all_put, unkept, unwritten}
+use Rattle.verifier_desk.{specs.Noted.entries_after, proofs.HeldReplies.{all_put, unkept, unwritten}}
 use Rattle.verifier_desk.proofs.telling.put_withheld.Goals as goal
 
 pub returns-in-Err-clause-puts : goal.returns-in-Err-clause-puts

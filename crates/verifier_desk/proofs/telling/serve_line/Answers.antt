@@ -1,8 +1,6 @@
-use Rattle.std.proofs.Common.{◌∙◌, ◌∷◌, ap, arith, refl, sym, subst, ℕ, false, [], Err, List, Bor}
-use Rattle.std.specs.Prelude.{codes, option_map}
+use Rattle.std.{proofs.Common.{◌∙◌, ◌∷◌, ap, arith, refl, sym, subst, ℕ, false, [], Err, List, Bor}, specs.Prelude.{codes, option_map}}
 use Rattle.text_scan.specs.Word.{words_of}
-use Rattle.verifier_desk.specs.{declared.answer_fault.AnswerFault.{AnswerFault, TheVariants.Memory}, Answering.Answers, Reply.reply_or_none, DeskLine.{TooLong, desk_line_of_words}, Replies.{gives_report, lines_said}}
-use Rattle.verifier_desk.proofs.{HeldReplies.{marked_still, nothing_more, reply_told, says_long, says_short, unkept_at_line}, MoreLines.fails_more}
+use Rattle.verifier_desk.{specs.{declared.answer_fault.AnswerFault.{AnswerFault, TheVariants.Memory}, Answering.Answers, Reply.reply_or_none, DeskLine.{TooLong, desk_line_of_words}, Replies.{gives_report, lines_said}}, proofs.{HeldReplies.{marked_still, nothing_more, reply_told, says_long, says_short, unkept_at_line}, MoreLines.fails_more}}
 use Rattle.verifier_desk.proofs.telling.serve_line.Goals as goal
 
 pub returns-in-Err-clause-stops : goal.returns-in-Err-clause-stops

@@ -1,7 +1,5 @@
-use Rattle.std.proofs.Common.{◌∙◌, List, [], ℕ, arith, drop, refl, subst, sym, take}
-use Rattle.std.proofs.lemmas.List.{take-append-drop, take_all}
-use Rattle.debug_link.specs.Console.{HasAdded}
-use Rattle.debug_link.proofs.{AddedText.{added_byte, added_none, adds_failed_in, prefix_less}, Faults.counts_failed}
+use Rattle.std.proofs.{Common.{◌∙◌, List, [], ℕ, arith, drop, refl, subst, sym, take}, lemmas.List.{take-append-drop, take_all}}
+use Rattle.debug_link.{specs.Console.HasAdded, proofs.{AddedText.{added_byte, added_none, adds_failed_in, prefix_less}, Faults.counts_failed}}
 use Rattle.debug_link.proofs.console_text.ConsoleText.add.Goals as goal
 
 pub loop-byte-init : goal.loop-byte-init

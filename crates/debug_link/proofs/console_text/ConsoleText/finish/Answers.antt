@@ -1,7 +1,5 @@
-use Rattle.std.proofs.Common.{◌≡◌, ◌<◌, length, arith, List, ℕ, subst}
-use Rattle.std.proofs.lemmas.Bool.Decides.{nat_tests}
-use Rattle.debug_link.specs.{Console.console, Writing.PutsPackets}
-use Rattle.debug_link.proofs.AddedText.{no_rest, rest_put}
+use Rattle.std.proofs.{Common.{◌≡◌, ◌<◌, length, arith, List, ℕ, subst}, lemmas.Bool.Decides.nat_tests}
+use Rattle.debug_link.{specs.{Console.console, Writing.PutsPackets}, proofs.AddedText.{no_rest, rest_put}}
 use Rattle.debug_link.proofs.console_text.ConsoleText.finish.Goals as goal
 
 pub returns-then-is_empty-clause-puts : goal.returns-then-is_empty-clause-puts

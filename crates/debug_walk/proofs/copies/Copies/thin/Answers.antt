@@ -1,6 +1,4 @@
-use Rattle.std.proofs.Common.{sym, subst, drop, suc, take}
-use Rattle.std.specs.List.{All}
-use Rattle.std.proofs.lemmas.List.Elements.{All-append, All-drop, All-take}
+use Rattle.std.{proofs.{Common.{sym, subst, drop, suc, take}, lemmas.List.Elements.{All-append, All-drop, All-take}}, specs.List.All}
 use Rattle.debug_walk.specs.Copies.{IsCopy}
 use Rattle.debug_walk.proofs.copies.Copies.thin.Goals as goal
 

@@ -1,8 +1,6 @@
-use Rattle.std.proofs.Common.{◌≡◌, ◌∙◌, inl, inr, ⊎_elim, ℕ, true, false, [], subst, sym, arith}
-use Rattle.std.proofs.lemmas.Bool.{cases_Bool}
+use Rattle.std.proofs.{Common.{◌≡◌, ◌∙◌, inl, inr, ⊎_elim, ℕ, true, false, [], subst, sym, arith}, lemmas.Bool.cases_Bool}
 use Rattle.debug_session.specs.Place.{Run, sight_at}
-use Rattle.debug_walk.specs.{Copies.{IsBegun, played_run}, Walk.{IsFresh, IsStretch, place_of}}
-use Rattle.debug_walk.proofs.FirstStep.{kept-of-boot}
+use Rattle.debug_walk.{specs.{Copies.{IsBegun, played_run}, Walk.{IsFresh, IsStretch, place_of}}, proofs.FirstStep.kept-of-boot}
 use Rattle.debug_walk.proofs.track.Track.first.Goals as goal
 
 pub returns-clause-begins : goal.returns-clause-begins

@@ -1,7 +1,5 @@
-use Rattle.std.proofs.Common.{inl, subst}
-use Rattle.std.specs.Prelude.{IfSome}
-use Rattle.debug_walk.specs.Copies.{IsCopy, played_run}
-use Rattle.debug_walk.proofs.Views.{begun-anew}
+use Rattle.std.{proofs.Common.{inl, subst}, specs.Prelude.IfSome}
+use Rattle.debug_walk.{specs.Copies.{IsCopy, played_run}, proofs.Views.begun-anew}
 use Rattle.debug_walk.proofs.track.Track.walk_before.Goals as goal
 
 pub returns-in-Some-2-clause-begins : goal.returns-in-Some-2-clause-begins

@@ -1,5 +1,4 @@
-use Rattle.std.proofs.Common.{◌≡◌, ◌≤◌, ◌<◌, ◌∙◌, ⊎_elim, ℕ, min, subst, sym, arith}
-use Rattle.std.proofs.Math.Nat.{min-eq_left}
+use Rattle.std.proofs.{Common.{◌≡◌, ◌≤◌, ◌<◌, ◌∙◌, ⊎_elim, ℕ, min, subst, sym, arith}, Math.Nat.min-eq_left}
 use Rattle.debug_session.specs.Request.{most_steps}
 use Rattle.debug_walk.specs.Walk.{place_of}
 use Rattle.debug_walk.proofs.track.Track.walk_to.Goals as goal

@@ -1,6 +1,5 @@
 use Rattle.std.proofs.Common.{◌≡◌, ◌≤◌, ◌-◌, ◌∙◌, refl, arith}
-use Rattle.debug_walk.specs.Walk.{place_of}
-use Rattle.debug_walk.proofs.{QuietWalks.row-flags, Views.{aux-at, exec-at}}
+use Rattle.debug_walk.{specs.Walk.place_of, proofs.{QuietWalks.row-flags, Views.{aux-at, exec-at}}}
 use Rattle.debug_walk.proofs.walk.Walk.make_row.Goals as goal
 
 pub returns-clause-stretch : goal.returns-clause-stretch

@@ -1,7 +1,6 @@
 use Rattle.std.proofs.Common.{◌≡◌, ◌∙◌, true, false, refl, sym}
 use Rattle.debug_session.specs.Place.{sight_at}
-use Rattle.debug_walk.specs.Walk.{place_of}
-use Rattle.debug_walk.proofs.Views.{level-at}
+use Rattle.debug_walk.{specs.Walk.place_of, proofs.Views.level-at}
 use Rattle.debug_walk.proofs.walk.Walk.next_stretch.Goals as goal
 
 pub returns-then-is_at_boundary : goal.returns-then-is_at_boundary

@@ -1,6 +1,5 @@
 use Rattle.std.proofs.Common.{◌≡◌, ◌-◌, suc, subst, sym, arith}
-use Rattle.debug_walk.specs.Walk.{TellsCause, place_of}
-use Rattle.debug_walk.proofs.QuietWalks.{row-passed, row-silent, row-tells}
+use Rattle.debug_walk.{specs.Walk.{TellsCause, place_of}, proofs.QuietWalks.{row-passed, row-silent, row-tells}}
 use Rattle.debug_walk.proofs.walk.Walk.play_row.Goals as goal
 
 pub returns-clause-walks : goal.returns-clause-walks

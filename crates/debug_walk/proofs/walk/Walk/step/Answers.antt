@@ -1,6 +1,5 @@
 use Rattle.std.proofs.Common.{◌≡◌, ◌∙◌, suc, refl, subst, sym, add-one, arith}
-use Rattle.debug_walk.specs.Walk.{IsStretch, place_of, seen_at, stretch_there}
-use Rattle.debug_walk.proofs.{StretchSteps.stretch-step, TellsSteps.{seen-hits, keeps-there, kept-one}}
+use Rattle.debug_walk.{specs.Walk.{IsStretch, place_of, seen_at, stretch_there}, proofs.{StretchSteps.stretch-step, TellsSteps.{seen-hits, keeps-there, kept-one}}}
 use Rattle.debug_walk.proofs.walk.Walk.step.Goals as goal
 
 pub returns-clause-walks : goal.returns-clause-walks

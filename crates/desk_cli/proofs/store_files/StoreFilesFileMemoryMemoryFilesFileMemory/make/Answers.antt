@@ -1,6 +1,5 @@
 use Rattle.std.proofs.Common.{◌≡◌, true, ◌∙◌, rules, subst, sym}
-use Rattle.desk_cli.specs.{MemoryFiles.Making, StoreFiles.IsCounted}
-use Rattle.desk_cli.proofs.FoundEntries.{made_fit, unopened}
+use Rattle.desk_cli.{specs.{MemoryFiles.Making, StoreFiles.IsCounted}, proofs.FoundEntries.{made_fit, unopened}}
 use Rattle.desk_cli.proofs.store_files.StoreFilesFileMemoryMemoryFilesFileMemory.make.Goals as goal
 
 pub returns-in-Ok-clause-made : goal.returns-in-Ok-clause-made

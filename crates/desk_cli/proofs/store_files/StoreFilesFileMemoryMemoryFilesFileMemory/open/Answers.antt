@@ -1,7 +1,6 @@
 use Rattle.std.proofs.Common.{◌≡◌, false, true, ◌∙◌, rules, subst, sym}
 use Rattle.desk_database.proofs.TableRows.{found_same}
-use Rattle.desk_cli.specs.{MemoryFiles.Opening, StoreFiles.{FindsIn, FindsNow, IsCounted}}
-use Rattle.desk_cli.proofs.FoundEntries.{opened_finds, opened_fit, unopened}
+use Rattle.desk_cli.{specs.{MemoryFiles.Opening, StoreFiles.{FindsIn, FindsNow, IsCounted}}, proofs.FoundEntries.{opened_finds, opened_fit, unopened}}
 use Rattle.desk_cli.proofs.store_files.StoreFilesFileMemoryMemoryFilesFileMemory.open.Goals as goal
 
 pub returns-in-Ok-clause-opened : goal.returns-in-Ok-clause-opened

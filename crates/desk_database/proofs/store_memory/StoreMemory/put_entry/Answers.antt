@@ -1,8 +1,7 @@
 use Rattle.std.proofs.Common.{◌≡◌, ◌∙◌, List, ap, arith, sym}
 use Rattle.sqlite_trees.specs.View.{IsClean, View}
 use Rattle.desk_memory.specs.Entry.{Entry, with_entry, place_for, are_sized}
-use Rattle.desk_database.specs.Rows.{rows_from}
-use Rattle.desk_database.proofs.TableRows.{are_sized-with_entry, put_row-noted}
+use Rattle.desk_database.{specs.Rows.rows_from, proofs.TableRows.{are_sized-with_entry, put_row-noted}}
 use Rattle.desk_database.proofs.store_memory.StoreMemory.put_entry.Goals as goal
 
 pub invariant_of-self-2 : goal.invariant_of-self-2

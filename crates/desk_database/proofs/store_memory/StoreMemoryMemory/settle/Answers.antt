@@ -1,6 +1,5 @@
 use Rattle.std.proofs.Common.{◌∙◌, subst, sym}
-use Rattle.desk_database.specs.Table.{IsMemoryOf}
-use Rattle.desk_database.proofs.TableRows.{finds_or_same, found_same}
+use Rattle.desk_database.{specs.Table.IsMemoryOf, proofs.TableRows.{finds_or_same, found_same}}
 use Rattle.desk_database.proofs.store_memory.StoreMemoryMemory.settle.Goals as goal
 
 pub returns-clause-kept : goal.returns-clause-kept

@@ -1,8 +1,7 @@
 use Rattle.std.proofs.Common.{◌∙◌, Err, ap, arith}
 use Rattle.play_script.specs.Script.{events_of}
 use Rattle.device_play.proofs.WatchedPlay.{length-play_of}
-use Rattle.device_cli.specs.Row.{start_in}
-use Rattle.device_cli.proofs.{Told.{takes-no_memory, told-puts, told-whole}, command.telling.tell.Goals.{in-Ok, in-Err-Write}}
+use Rattle.device_cli.{specs.Row.start_in, proofs.{Told.{takes-no_memory, told-puts, told-whole}, command.telling.tell.Goals.{in-Ok, in-Err-Write}}}
 use Rattle.device_cli.proofs.command.telling.tell.Goals as goal
 
 pub unreachable-requires : goal.unreachable-requires

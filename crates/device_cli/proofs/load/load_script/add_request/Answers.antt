@@ -1,10 +1,7 @@
-use Rattle.std.proofs.Common.{◌≡◌, ◌∙◌, ◌++◌, ◌+◌}
-use Rattle.std.proofs.lemmas.Result.{on_ok_weaker}
-use Rattle.std.specs.Prelude.{map}
+use Rattle.std.{proofs.{Common.{◌≡◌, ◌∙◌, ◌++◌, ◌+◌}, lemmas.Result.on_ok_weaker}, specs.Prelude.map}
 use Rattle.device_types.specs.declared.event.Event.TheVariants.{Rx}
 use Rattle.play_script.specs.Grammar.{timed_events}
-use Rattle.device_cli.specs.FileKind.{rest_delay}
-use Rattle.device_cli.proofs.DrawnScript.{request-added}
+use Rattle.device_cli.{specs.FileKind.rest_delay, proofs.DrawnScript.request-added}
 use Rattle.device_cli.proofs.load.load_script.add_request.Goals as goal
 
 pub returns-clause-events : goal.returns-clause-events

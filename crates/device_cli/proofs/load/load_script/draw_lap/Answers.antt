@@ -1,8 +1,6 @@
-use Rattle.std.proofs.Common.{◌≡◌, ◌∙◌, ◌++◌, ◌*◌, ◌+◌, List, ap, arith}
-use Rattle.std.proofs.lemmas.Result.{on_ok_weaker}
+use Rattle.std.proofs.{Common.{◌≡◌, ◌∙◌, ◌++◌, ◌*◌, ◌+◌, List, ap, arith}, lemmas.Result.on_ok_weaker}
 use Rattle.play_script.specs.{Grammar.timed_events, Script.TimedEvent}
-use Rattle.device_cli.specs.{FileKind.{lap_steps, rest_delay}, Load.{disturbance, disturbed_step}}
-use Rattle.device_cli.proofs.DrawnScript.{lap-drawn, lap-added, within-later}
+use Rattle.device_cli.{specs.{FileKind.{lap_steps, rest_delay}, Load.{disturbance, disturbed_step}}, proofs.DrawnScript.{lap-drawn, lap-added, within-later}}
 use Rattle.device_cli.proofs.load.load_script.draw_lap.Goals as goal
 
 pub disturb-requires : goal.disturb-requires

@@ -1,6 +1,5 @@
 use Rattle.std.proofs.Common.{◌≡◌, arith}
-use Rattle.device_cli.specs.Load.{generator_of, drawn_laps}
-use Rattle.device_cli.proofs.DrawnScript.{drawn_laps-next}
+use Rattle.device_cli.{specs.Load.{generator_of, drawn_laps}, proofs.DrawnScript.drawn_laps-next}
 use Rattle.device_cli.proofs.load.load_script.draw_script.Goals as goal
 
 pub loop-lap-init : goal.loop-lap-init

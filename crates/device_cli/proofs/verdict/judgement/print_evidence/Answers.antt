@@ -1,13 +1,10 @@
-use Rattle.std.proofs.Common.{List, ℕ, ap}
-use Rattle.std.proofs.Math.Path.{subst}
+use Rattle.std.proofs.{Common.{List, ℕ, ap}, Math.Path.subst}
 use Rattle.device_types.specs.Report.{fields_of}
 use Rattle.part_definitions.specs.Memory.{byte_at}
-use Rattle.outside_edge.specs.Sink.{Takes, TakesPrefix}
-use Rattle.outside_edge.proofs.SinkLemmas.{puts-failed}
+use Rattle.outside_edge.{specs.Sink.{Takes, TakesPrefix}, proofs.SinkLemmas.puts-failed}
 use Rattle.report_verifier.specs.Judge.{judge_of}
 use Rattle.device_trace.specs.Text.{some_line}
-use Rattle.device_cli.specs.Judgement.{pair_line}
-use Rattle.device_cli.proofs.IsJudged.{accepted-fits_expect, no-pair, none-shown, shown-by, stops-at_pair}
+use Rattle.device_cli.{specs.Judgement.pair_line, proofs.IsJudged.{accepted-fits_expect, no-pair, none-shown, shown-by, stops-at_pair}}
 use Rattle.device_play.proofs.WriteCounts.{counts-nothing, nothing-begun, nothing-put}
 use Rattle.device_cli.proofs.verdict.judgement.print_evidence.Goals as goal
 

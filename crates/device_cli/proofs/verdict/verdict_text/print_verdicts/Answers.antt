@@ -1,12 +1,9 @@
-use Rattle.std.proofs.Common.{◌∙◌, ◌+◌, ◌++◌, ◌<◌, ◌^◌, [], refl, arith, append-nil, take}
-use Rattle.std.proofs.lemmas.List.{length-take-le}
-use Rattle.std.proofs.lemmas.Result.{err_from_is_err_and}
+use Rattle.std.proofs.{Common.{◌∙◌, ◌+◌, ◌++◌, ◌<◌, ◌^◌, [], refl, arith, append-nil, take}, lemmas.{List.length-take-le, Result.err_from_is_err_and}}
 use Rattle.outside_edge.proofs.SinkLemmas.{takes_both, prefix_after, prefix_of_more}
 use Rattle.report_verifier.specs.Judge.{judge_of}
 use Rattle.report_text.specs.VerdictLine.{verdict_line}
-use Rattle.device_cli.specs.Verdicts.{lines_from, verdicts}
+use Rattle.device_cli.{specs.Verdicts.{lines_from, verdicts}, proofs.Tallies.{counted-few, counts-more, verdicts_ahead, ahead-next, ahead-end, lines-next, verdicts-all, verdicts-taken}}
 use Rattle.device_play.proofs.WriteCounts.{takes-nothing}
-use Rattle.device_cli.proofs.Tallies.{counted-few, counts-more, verdicts_ahead, ahead-next, ahead-end, lines-next, verdicts-all, verdicts-taken}
 use Rattle.device_cli.proofs.verdict.verdict_text.print_verdicts.Goals as goal
 
 pub loop-i-init : goal.loop-i-init

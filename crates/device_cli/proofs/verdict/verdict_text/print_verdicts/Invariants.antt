@@ -1,8 +1,7 @@
 use Rattle.std.proofs.Common.{◌≡◌, ◌+◌, ◌++◌, List, ℕ, take}
 use Rattle.outside_edge.specs.Sink.{Takes}
 use Rattle.report_verifier.specs.Judge.{judge_of}
-use Rattle.device_cli.specs.Verdicts.{Counts, verdicts, lines_from}
-use Rattle.device_cli.proofs.Tallies.{verdicts_ahead}
+use Rattle.device_cli.{specs.Verdicts.{Counts, verdicts, lines_from}, proofs.Tallies.verdicts_ahead}
 use Rattle.device_cli.proofs.verdict.verdict_text.print_verdicts.Given as goal
 
 -- the lines so far and those ahead are the whole text, and the verdicts so far are counted

@@ -2,8 +2,7 @@ use Rattle.std.proofs.Common.{◌≡◌, ℕ, refl, sym, subst, arith}
 use Rattle.mem_map.specs.Memory.{MemoryStandsFor}
 use Rattle.part_definitions.specs.Memory.{ShownFlags}
 use Rattle.device_trace.specs.{Logs.flags_of, Peripherals.Peripherals}
-use Rattle.device_core.specs.{Bus.{LastStandsFor, PeripheralsStandFor}, Sleep.{Sleeps, logs_idle}}
-use Rattle.device_core.proofs.Sleep.{asleep, asleep-step, sleeps-on}
+use Rattle.device_core.{specs.{Bus.{LastStandsFor, PeripheralsStandFor}, Sleep.{Sleeps, logs_idle}}, proofs.Sleep.{asleep, asleep-step, sleeps-on}}
 use Rattle.device_core.proofs.bus.Bus.skip_sleep.Goals as goal
 
 pub returns-then-can_skip_sleep-clause-stands : goal.returns-then-can_skip_sleep-clause-stands

@@ -1,7 +1,6 @@
 use Rattle.std.proofs.Common.{◌∷◌}
 use Rattle.device_trace.specs.Logs.{aux_shown, flags_shown}
-use Rattle.device_core.specs.Bus.{seen_in}
-use Rattle.device_core.proofs.FlagsShown.{aux-more}
+use Rattle.device_core.{specs.Bus.seen_in, proofs.FlagsShown.aux-more}
 use Rattle.device_core.proofs.bus.Bus.watch.Goals as goal
 
 pub returns-clause-memory : goal.returns-clause-memory

@@ -1,5 +1,4 @@
-use Rattle.std.proofs.Common.{◌∙◌, ap, sym}
-use Rattle.std.proofs.lemmas.Bool.{false≢true}
+use Rattle.std.proofs.{Common.{◌∙◌, ap, sym}, lemmas.Bool.false≢true}
 use Rattle.device_types.specs.Bounds.{executable_region}
 use Rattle.device_trace.specs.Logs.{flags_of}
 use Rattle.device_core.proofs.bus.Bus.watched_region.Goals as goal

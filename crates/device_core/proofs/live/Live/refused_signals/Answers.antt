@@ -1,7 +1,6 @@
 use Rattle.std.proofs.Common.{◌∙◌, ap, sym}
 use Rattle.device_trace.specs.Trace.{last_signals}
-use Rattle.device_core.specs.Silence.{where_refused}
-use Rattle.device_core.proofs.{Idle.silent-parts, Outside.{live-refused, live-unkept}}
+use Rattle.device_core.{specs.Silence.where_refused, proofs.{Idle.silent-parts, Outside.{live-refused, live-unkept}}}
 use Rattle.device_core.proofs.live.Live.refused_signals.Goals as goal
 
 pub returns-in-Some : goal.returns-in-Some

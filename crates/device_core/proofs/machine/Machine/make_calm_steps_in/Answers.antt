@@ -1,7 +1,6 @@
 use Rattle.std.proofs.Common.{refl, arith}
 use Rattle.device_trace.specs.Trace.{Play, logs_after}
-use Rattle.device_core.specs.{Quiet.{IsOpen, IsQuiet}, Silence.with_idle}
-use Rattle.device_core.proofs.{CalmRuns.region-idle, Idle.{each-more, goes-idle, idle-more}, QuietSteps.quiet-step}
+use Rattle.device_core.{specs.{Quiet.{IsOpen, IsQuiet}, Silence.with_idle}, proofs.{CalmRuns.region-idle, Idle.{each-more, goes-idle, idle-more}, QuietSteps.quiet-step}}
 use Rattle.device_core.proofs.machine.Machine.make_calm_steps_in.Goals as goal
 
 pub loop-made-init : goal.loop-made-init

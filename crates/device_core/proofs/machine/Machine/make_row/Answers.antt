@@ -1,7 +1,6 @@
 use Rattle.std.proofs.Common.{◌∙◌, ◌+◌, ◌∷◌, [], sym, arith, subst}
 use Rattle.device_trace.specs.Trace.{Play, logs_after}
-use Rattle.device_core.specs.{Machine.PlaysAt, Quiet.{IsOpen, IsQuiet}, Silence.with_idle}
-use Rattle.device_core.proofs.{Idle.{each-fewer, each-less, goes-idle, idle-after}, QuietSteps.{before-open, behind-open, behind-quiet, kept-some, none-kept, quiet-next}}
+use Rattle.device_core.{specs.{Machine.PlaysAt, Quiet.{IsOpen, IsQuiet}, Silence.with_idle}, proofs.{Idle.{each-fewer, each-less, goes-idle, idle-after}, QuietSteps.{before-open, behind-open, behind-quiet, kept-some, none-kept, quiet-next}}}
 use Rattle.device_core.proofs.machine.Machine.make_row.Goals as goal
 
 pub loop-made-init : goal.loop-made-init

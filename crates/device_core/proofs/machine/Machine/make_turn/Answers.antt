@@ -1,7 +1,6 @@
 use Rattle.std.proofs.Common.{◌≡◌, ◌∙◌, Some, None, sym, subst}
 use Rattle.device_trace.specs.{Logs.vector_of, Progress.{Held, last_registers}, Signals.step_kind, Step.record_of}
-use Rattle.device_core.specs.Bus.{TurnStandsFor, answer_in}
-use Rattle.device_core.proofs.{Decisions.refused-decision, Calls.ended, Levels.level-step, NextProgress.progress-refused, Turns.registers-within}
+use Rattle.device_core.{specs.Bus.{TurnStandsFor, answer_in}, proofs.{Decisions.refused-decision, Calls.ended, Levels.level-step, NextProgress.progress-refused, Turns.registers-within}}
 use Rattle.device_core.proofs.machine.Machine.make_turn.Goals as goal
 
 pub returns-in-Some-clause-stands : goal.returns-in-Some-clause-stands

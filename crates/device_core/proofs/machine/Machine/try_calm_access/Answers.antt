@@ -1,8 +1,7 @@
 use Rattle.std.proofs.Common.{◌∙◌, None, false, sym, ap}
 use Rattle.part_definitions.specs.CpuState.{cpu_after}
 use Rattle.device_trace.specs.Progress.{last_registers}
-use Rattle.device_core.specs.Machine.{cpu_of}
-use Rattle.device_core.proofs.{CalmRegion.{calm-answer, turn-access}, CalmRuns.{calm-kind, goes-calmly, middle-legal, middle-opcode, within-open}, Levels.level-middle, Turns.{middle-within, runs-middle, takes-value}}
+use Rattle.device_core.{specs.Machine.cpu_of, proofs.{CalmRegion.{calm-answer, turn-access}, CalmRuns.{calm-kind, goes-calmly, middle-legal, middle-opcode, within-open}, Levels.level-middle, Turns.{middle-within, runs-middle, takes-value}}}
 use Rattle.device_core.proofs.machine.Machine.try_calm_access.Goals as goal
 
 pub returns-in-Some-clause-made : goal.returns-in-Some-clause-made

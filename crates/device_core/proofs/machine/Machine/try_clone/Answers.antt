@@ -1,8 +1,7 @@
 use Rattle.std.proofs.Common.{sym, subst}
 use Rattle.device_trace.specs.Trace.{last_signals, logs_after}
 use Rattle.swatt_rom.specs.Rom.{RomStandsFor}
-use Rattle.device_core.specs.Bus.{KeepsSignals}
-use Rattle.device_core.proofs.QuietSteps.{no-call}
+use Rattle.device_core.{specs.Bus.KeepsSignals, proofs.QuietSteps.no-call}
 use Rattle.device_core.proofs.machine.Machine.try_clone.Goals as goal
 
 pub returns : goal.returns

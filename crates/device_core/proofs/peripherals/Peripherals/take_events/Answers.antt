@@ -1,5 +1,4 @@
-use Rattle.std.proofs.Common.{arith}
-use Rattle.std.proofs.lemmas.List.{take_more}
+use Rattle.std.proofs.{Common.arith, lemmas.List.take_more}
 use Rattle.device_types.specs.declared.event.Event.TheVariants.{Rx}
 use Rattle.device_core.proofs.Turns.{with_all_events-snoc}
 use Rattle.device_core.proofs.peripherals.Peripherals.take_events.Goals as goal

@@ -1,5 +1,4 @@
-use Rattle.std.proofs.Common.{◌∙◌, ap}
-use Rattle.std.specs.Prelude.{codes}
+use Rattle.std.{proofs.Common.{◌∙◌, ap}, specs.Prelude.codes}
 use Rattle.debug_session.specs.StopReply.{stop_reply}
 use Rattle.device_debug.proofs.Answering.{closed-behind, closed-silently, half-closed, said-so, uninterrupted}
 use Rattle.device_debug.proofs.debugger.Debugger.answer.Goals as goal

@@ -1,8 +1,6 @@
-use Rattle.std.proofs.Common.{Bool, subst, sym}
-use Rattle.std.specs.Prelude.{codes, if◌then◌else◌}
+use Rattle.std.{proofs.Common.{Bool, subst, sym}, specs.Prelude.{codes, if◌then◌else◌}}
 use Rattle.debug_session.specs.{Session.{Session, says}, Stops.{Stops, with_change}}
-use Rattle.device_debug.specs.Session.{Gives}
-use Rattle.device_debug.proofs.Answering.{stops-asked}
+use Rattle.device_debug.{specs.Session.Gives, proofs.Answering.stops-asked}
 use Rattle.device_debug.proofs.debugger.Debugger.change.Goals as goal
 
 pub returns-then-change-clause-gives : goal.returns-then-change-clause-gives

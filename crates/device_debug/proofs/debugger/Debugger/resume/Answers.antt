@@ -1,7 +1,6 @@
 use Rattle.std.proofs.Common.{◌∙◌, ℕ, Option, Ok, Err, ap}
 use Rattle.debug_session.specs.{declared.command.Way.TheVariants.{Ahead, Back}, Going.{interrupted, where_to}, Stops.Stops}
-use Rattle.device_debug.specs.{Going.step_in, Session.view_in, declared.debugger.Debugger.Debugger}
-use Rattle.device_debug.proofs.{Answering.may-fail, Gone.{failed-on, goes-as, goes-back-as, stays-as, went-back, went-on}}
+use Rattle.device_debug.{specs.{Going.step_in, Session.view_in, declared.debugger.Debugger.Debugger}, proofs.{Answering.may-fail, Gone.{failed-on, goes-as, goes-back-as, stays-as, went-back, went-on}}}
 use Rattle.device_debug.proofs.debugger.Debugger.resume.Goals as goal
 
 pub returns-in_err-walk-in-Ahead-clause-gives : goal.returns-in_err-walk-in-Ahead-clause-gives

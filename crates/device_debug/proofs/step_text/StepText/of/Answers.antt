@@ -1,6 +1,5 @@
 use Rattle.std.proofs.Common.{ap}
-use Rattle.device_debug.specs.Telling.{GrownText}
-use Rattle.device_debug.proofs.Refusals.{grown-all}
+use Rattle.device_debug.{specs.Telling.GrownText, proofs.Refusals.grown-all}
 use Rattle.device_debug.proofs.step_text.StepText.of.Goals as goal
 
 pub returns-clause-text : goal.returns-clause-text

@@ -1,5 +1,4 @@
-use Rattle.std.proofs.Common.{ap}
-use Rattle.std.specs.Prelude.{is_ok}
+use Rattle.std.{proofs.Common.ap, specs.Prelude.is_ok}
 use Rattle.device_debug.proofs.{ToldTexts.kept-is, waiting_lines.WaitingLines.keep.Goals.{in-Ok, in-Err}}
 use Rattle.device_debug.proofs.waiting_lines.WaitingLines.keep.Goals as goal
 

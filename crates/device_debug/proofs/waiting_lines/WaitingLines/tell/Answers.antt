@@ -1,9 +1,6 @@
-use Rattle.std.proofs.Common.{◌∙◌, List, ap, arith, subst}
-use Rattle.std.proofs.lemmas.List.{take_all}
-use Rattle.debug_link.specs.Writing.{HasPut, PutsPackets}
-use Rattle.debug_link.proofs.{AddedText.put_none, Faults.counts_unwritten}
-use Rattle.device_debug.specs.Telling.{GrownText, bodies_of}
-use Rattle.device_debug.proofs.{Answering.counts-done, ToldTexts.{texts-failed, texts-next}}
+use Rattle.std.proofs.{Common.{◌∙◌, List, ap, arith, subst}, lemmas.List.take_all}
+use Rattle.debug_link.{specs.Writing.{HasPut, PutsPackets}, proofs.{AddedText.put_none, Faults.counts_unwritten}}
+use Rattle.device_debug.{specs.Telling.{GrownText, bodies_of}, proofs.{Answering.counts-done, ToldTexts.{texts-failed, texts-next}}}
 use Rattle.device_debug.proofs.waiting_lines.WaitingLines.tell.Goals as goal
 
 pub loop-text-init : goal.loop-text-init

@@ -1,8 +1,7 @@
 use Rattle.std.proofs.Common.{◌≡◌, ◌-◌, ◌∙◌, ◌++◌, ℕ, List, suc, true, false, ap, arith, sym}
 use Rattle.debug_session.specs.Place.{sight_at}
 use Rattle.debug_walk.specs.Walk.{place_of}
-use Rattle.device_debug.specs.Telling.{bodies_of, step_bodies}
-use Rattle.device_debug.proofs.{Answering.counts-memory, ToldTexts.{last-stands, tells-all, tells-later, tells-none}}
+use Rattle.device_debug.{specs.Telling.{bodies_of, step_bodies}, proofs.{Answering.counts-memory, ToldTexts.{last-stands, tells-all, tells-later, tells-none}}}
 use Rattle.debug_link.specs.Console.{console}
 use Rattle.device_debug.proofs.waiting_lines.WaitingLines.tell_step.Goals as goal
 

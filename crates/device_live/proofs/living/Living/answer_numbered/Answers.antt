@@ -1,6 +1,5 @@
 use Rattle.std.specs.Prelude.{option_map}
-use Rattle.device_live.specs.Conversation.{answer_to}
-use Rattle.device_live.proofs.Answered.{counted, numbered-cut, numbered-refused, numbered-told}
+use Rattle.device_live.{specs.Conversation.answer_to, proofs.Answered.{counted, numbered-cut, numbered-refused, numbered-told}}
 use Rattle.device_live.proofs.living.Living.answer_numbered.Goals as goal
 
 pub returns-in-Ok-clause-answers : goal.returns-in-Ok-clause-answers

@@ -1,6 +1,5 @@
 use Rattle.play_script.specs.Script.{events_in}
-use Rattle.device_live.specs.Answer.{memory_line, registers_line}
-use Rattle.device_live.proofs.Answered.{happens-refused, happens-taken, says-cut}
+use Rattle.device_live.{specs.Answer.{memory_line, registers_line}, proofs.Answered.{happens-refused, happens-taken, says-cut}}
 use Rattle.device_live.proofs.living.Living.answer_said.Goals as goal
 
 pub returns-in_err-expect-in-Happens-clause-answers :

@@ -1,6 +1,4 @@
-use Rattle.std.proofs.Common.{◌≡◌, true, false, arith, refl}
-use Rattle.std.specs.Prelude.{nat_lt}
-use Rattle.std.proofs.lemmas.Bool.Decides.{nat_tests}
+use Rattle.std.{proofs.{Common.{◌≡◌, true, false, arith, refl}, lemmas.Bool.Decides.nat_tests}, specs.Prelude.nat_lt}
 use Rattle.play_script.specs.Script.{events_in}
 use Rattle.device_live.proofs.{ToCome.{entry-taken, late-refused, made-refused}, living.Living.expect.Goals.{then-step-steps-via-then-step-steps, then-step-steps-via-else-step-steps+then-step-self}}
 use Rattle.device_live.proofs.living.Living.expect.Goals as goal

@@ -1,7 +1,6 @@
 use Rattle.std.proofs.Common.{◌≡◌, ◌∙◌}
 use Rattle.device_play.proofs.WatchedPlay.{length-play_of}
-use Rattle.device_live.specs.Life.{events_in, play_lived}
-use Rattle.device_live.proofs.Alive.{alive, never-gone}
+use Rattle.device_live.{specs.Life.{events_in, play_lived}, proofs.Alive.{alive, never-gone}}
 use Rattle.device_live.proofs.living.Living.print_standing.Goals as goal
 
 pub returns-in-Some-clause-puts : goal.returns-in-Some-clause-puts

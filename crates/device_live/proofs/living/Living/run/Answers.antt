@@ -1,6 +1,5 @@
 use Rattle.std.proofs.Common.{◌≤◌, arith}
-use Rattle.device_live.specs.Life.{Life}
-use Rattle.device_live.proofs.Answered.{run-cut, run-late, run-told, run-unstanding}
+use Rattle.device_live.{specs.Life.Life, proofs.Answered.{run-cut, run-late, run-told, run-unstanding}}
 use Rattle.device_live.proofs.living.Living.run.Goals as goal
 
 pub returns-then-steps-clause-answers : goal.returns-then-steps-clause-answers

@@ -1,7 +1,6 @@
-use Rattle.std.proofs.Common.{◌≡◌, ◌≤◌, ◌+◌, ◌∙◌, Bool, true, false, refl, arith, sym}
+use Rattle.std.proofs.{Common.{◌≡◌, ◌≤◌, ◌+◌, ◌∙◌, Bool, true, false, refl, arith, sym}, lemmas.Bool.Decides.nat_tests}
 use mir.Val.{bool_byte}
 use Rattle.word_arith.specs.Number.{bit_of}
-use Rattle.std.proofs.lemmas.Bool.Decides.{nat_tests}
 use Rattle.part_definitions.specs.Timer.{timer_count, timer_compare}
 use Rattle.device_peripherals.proofs.Ticks.{ticked, ticks-writes, ticks-steps}
 use Rattle.device_peripherals.proofs.timer.Timer.count_on.Goals as goal

@@ -1,5 +1,4 @@
-use Rattle.std.proofs.Common.{◌≡◌, ◌≤◌, ◌∙◌, false, arith, sym, subst}
-use Rattle.std.proofs.lemmas.Bool.Decides.{nat_tests}
+use Rattle.std.proofs.{Common.{◌≡◌, ◌≤◌, ◌∙◌, false, arith, sym, subst}, lemmas.Bool.Decides.nat_tests}
 use Rattle.part_definitions.specs.Timer.{timer_runs}
 use Rattle.device_peripherals.proofs.Ticks.{stopped, requests-before-zero, ticks-writes, ticks-steps}
 use Rattle.device_peripherals.proofs.timer.Timer.tick_before_zero.Goals as goal

@@ -1,5 +1,4 @@
-use Rattle.device_play.specs.Accounts.{line_account}
-use Rattle.device_play.proofs.SeenStep.{seen-all, seen-failed}
+use Rattle.device_play.{specs.Accounts.line_account, proofs.SeenStep.{seen-all, seen-failed}}
 use Rattle.device_play.proofs.line_watcher.LineWatcherWatcher.see.Goals as goal
 
 pub returns-in_err-print_last_step-clause-seen : goal.returns-in_err-print_last_step-clause-seen

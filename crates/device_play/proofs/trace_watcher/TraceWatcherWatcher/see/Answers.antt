@@ -1,6 +1,5 @@
 use Rattle.std.proofs.Common.{◌∷◌}
-use Rattle.device_play.specs.Accounts.{trace_account}
-use Rattle.device_play.proofs.{SeenStep.{seen-all, seen-failed}, TracedStep.{printable-more, puts-traced}}
+use Rattle.device_play.{specs.Accounts.trace_account, proofs.{SeenStep.{seen-all, seen-failed}, TracedStep.{printable-more, puts-traced}}}
 use Rattle.device_play.proofs.trace_watcher.TraceWatcherWatcher.see.Goals as goal
 
 pub returns-in_err-print_line-clause-seen : goal.returns-in_err-print_line-clause-seen

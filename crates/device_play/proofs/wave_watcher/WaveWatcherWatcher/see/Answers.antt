@@ -1,7 +1,6 @@
 use Rattle.std.proofs.Common.{◌∷◌, arith}
 use Rattle.trace_files.specs.WaveSamples.{wave_samples}
-use Rattle.device_play.specs.Accounts.{wave_account}
-use Rattle.device_play.proofs.{SeenStep.{seen-all, seen-failed}, WaveStep.{length-samples, puts-changes, sample-is, samples-more}}
+use Rattle.device_play.{specs.Accounts.wave_account, proofs.{SeenStep.{seen-all, seen-failed}, WaveStep.{length-samples, puts-changes, sample-is, samples-more}}}
 use Rattle.device_play.proofs.wave_watcher.WaveWatcherWatcher.see.Goals as goal
 
 pub tell-requires : goal.tell-requires

@@ -1,5 +1,4 @@
-use Rattle.std.proofs.Common.{◌≡◌, ◌&&◌, ◌||◌, ◌∙◌, false, is_none, not, sym, ap}
-use Rattle.std.proofs.lemmas.Bool.{not-true}
+use Rattle.std.proofs.{Common.{◌≡◌, ◌&&◌, ◌||◌, ◌∙◌, false, is_none, not, sym, ap}, lemmas.Bool.not-true}
 use Rattle.device_types.specs.ExecFlag.{SeenRecord, clears_both, enters_region, fetches_first}
 use Rattle.part_definitions.specs.TrustedFlag.{clears_f3, clears_f4, clears_f10}
 use Rattle.execution_flags.proofs.QuietStep.{quiet-parts}

@@ -1,5 +1,4 @@
-use Rattle.std.proofs.Common.{◌≡◌, ◌==◌, ◌&&◌, ◌||◌, ◌∙◌, false, is_none, not, sym, ap}
-use Rattle.std.proofs.lemmas.Bool.{not-true}
+use Rattle.std.proofs.{Common.{◌≡◌, ◌==◌, ◌&&◌, ◌||◌, ◌∙◌, false, is_none, not, sym, ap}, lemmas.Bool.not-true}
 use Rattle.device_types.specs.ExecFlag.{SeenRecord, clears_both, clears_e3, clears_e4, enters_region}
 use Rattle.execution_flags.proofs.QuietStep.{quiet-parts}
 use Rattle.execution_flags.proofs.exec_flag.ExecConditionsConditions.spares.Goals as goal

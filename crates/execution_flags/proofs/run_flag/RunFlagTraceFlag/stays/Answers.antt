@@ -1,5 +1,4 @@
-use Rattle.std.proofs.Common.{◌≡◌, ◌==◌, ◌∙◌, true, false, ap, sym}
-use Rattle.std.proofs.lemmas.Bool.{not-true}
+use Rattle.std.proofs.{Common.{◌≡◌, ◌==◌, ◌∙◌, true, false, ap, sym}, lemmas.Bool.not-true}
 use Rattle.device_types.specs.ExecFlag.{SeenRecord, last_pc}
 use Rattle.execution_flags.proofs.UnclearedStarts.{flag-elsewhere, flag-spared}
 use Rattle.execution_flags.proofs.run_flag.RunFlagTraceFlag.stays.Goals as goal

@@ -1,8 +1,6 @@
-use Rattle.std.proofs.Common.{rules, arith}
-use Rattle.std.proofs.Common.{[]}
+use Rattle.std.proofs.Common.{rules, arith, []}
 use Rattle.part_definitions.specs.Memory.{no_flags, byte_at}
-use Rattle.mem_map.specs.Image.{power_on_of}
-use Rattle.mem_map.proofs.Byte.{append-bytes}
+use Rattle.mem_map.{specs.Image.power_on_of, proofs.Byte.append-bytes}
 use Rattle.mem_map.proofs.memory.Memory.new.Goals as goal
 
 pub loop-place-preserved : goal.loop-place-preserved

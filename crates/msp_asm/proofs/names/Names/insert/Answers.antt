@@ -1,7 +1,4 @@
-use Rattle.std.proofs.Common.{◌∙◌, ap, Some, ℤ, w32, to_z, of_z}
-use Rattle.std.specs.Map.{update}
-use Rattle.std.specs.Str.{bytes_eq}
-use Rattle.std.proofs.lemmas.Int.{to_z-of_z}
+use Rattle.std.{proofs.{Common.{◌∙◌, ap, Some, ℤ, w32, to_z, of_z}, lemmas.Int.to_z-of_z}, specs.{Map.update, Str.bytes_eq}}
 use Rattle.msp_asm.proofs.NameMap.{value_of-update, value_of}
 use Rattle.msp_asm.proofs.names.Names.insert.Goals as goal
 

@@ -1,10 +1,8 @@
-use Rattle.std.proofs.Common.{arith, rules, ◌≡◌, ◌∙◌, ap, ◌+ℤ◌}
-use Rattle.std.proofs.lemmas.Int.{ints, to_z-of_z}
+use Rattle.std.proofs.{Common.{arith, rules, ◌≡◌, ◌∙◌, ap, ◌+ℤ◌}, lemmas.Int.{ints, to_z-of_z}}
 use mir.Syntax.{w64, w128}
 use mir.Val.{SFits, to_z, of_z}
 use Rattle.asm_text.specs.Expr.{SignedTerm}
-use Rattle.msp_asm.specs.Value.{scope_in, term_value, with_sign}
-use Rattle.msp_asm.proofs.ValueSum.{sum_step}
+use Rattle.msp_asm.{specs.Value.{scope_in, term_value, with_sign}, proofs.ValueSum.sum_step}
 use Rattle.msp_asm.proofs.scope.Scope.value.Goals as goal
 
 pub loop-is_subtracted-preserved : goal.loop-is_subtracted-preserved

@@ -1,6 +1,5 @@
 use Rattle.std.proofs.Common.{◌≡◌, ◌*◌, ◌^◌, drop, pos, neg_ℤ, ◌≤ℤ◌}
-use Rattle.msp_asm.specs.Value.{scope_in, value}
-use Rattle.msp_asm.proofs.ValueSum.{sum_with}
+use Rattle.msp_asm.{specs.Value.{scope_in, value}, proofs.ValueSum.sum_with}
 use Rattle.msp_asm.proofs.scope.Scope.value.Given as goal
 
 abbrev pub invariant-loop-is_subtracted : goal.invariant-loop-is_subtracted

@@ -1,6 +1,5 @@
 use Rattle.std.proofs.Common.{◌≡◌, drop}
-use Rattle.msp_asm.specs.{Value.scope_in, Statement.values_of}
-use Rattle.msp_asm.proofs.Lists.{with_prefix}
+use Rattle.msp_asm.{specs.{Value.scope_in, Statement.values_of}, proofs.Lists.with_prefix}
 use Rattle.msp_asm.proofs.scope.Scope.values.Given as goal
 
 abbrev pub invariant-loop-expr : goal.invariant-loop-expr

@@ -1,5 +1,4 @@
-use Rattle.std.proofs.Common.{◌≡◌, ◌∙◌, ℕ, true, not, sym, ap}
-use Rattle.std.proofs.lemmas.Bool.{false≢true}
+use Rattle.std.proofs.{Common.{◌≡◌, ◌∙◌, ℕ, true, not, sym, ap}, lemmas.Bool.false≢true}
 use Rattle.msp_decode.specs.Head.{head_of}
 use Rattle.part_definitions.specs.NextAccess.{is_illegal}
 use Rattle.msp_exec.proofs.cpu.Cpu.begin_apart.Goals as goal

@@ -1,6 +1,4 @@
-use Rattle.std.proofs.Common.{◌≤◌}
-use Rattle.std.specs.Prelude.{nat_le}
-use Rattle.std.proofs.lemmas.List.Elements.{All-filter}
+use Rattle.std.{proofs.{Common.◌≤◌, lemmas.List.Elements.All-filter}, specs.Prelude.nat_le}
 use Rattle.play_script.proofs.open_script.OpenScript.forget_before.Goals as goal
 
 pub invariant_of-self : goal.invariant_of-self

@@ -1,7 +1,6 @@
 use Rattle.std.proofs.Common.{◌∙◌, List, ℕ, ap}
 use Rattle.device_types.specs.declared.event.Event.{Event}
-use Rattle.play_script.specs.Script.{TimedEvent, from_step}
-use Rattle.play_script.proofs.Passing.{from-drop}
+use Rattle.play_script.{specs.Script.{TimedEvent, from_step}, proofs.Passing.from-drop}
 use Rattle.play_script.proofs.script.Script.forget_before.Goals as goal
 
 pub returns : goal.returns

@@ -1,6 +1,5 @@
 use Rattle.std.proofs.lemmas.Result.{err_from_is_err_and}
-use Rattle.source_server.specs.LineCut.{cut_of}
-use Rattle.source_server.proofs.LineLemmas.{among_all, piece_settled}
+use Rattle.source_server.{specs.LineCut.cut_of, proofs.LineLemmas.{among_all, piece_settled}}
 use Rattle.source_server.proofs.lines.LinesResponder.answer.Goals as goal
 
 pub returns-in_err-answer_lines-clause-answers : goal.returns-in_err-answer_lines-clause-answers

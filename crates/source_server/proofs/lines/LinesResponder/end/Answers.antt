@@ -1,6 +1,4 @@
-use Rattle.std.proofs.Common.{◌∙◌, sym}
-use Rattle.std.proofs.lemmas.Bool.{false≢true}
-use Rattle.std.proofs.lemmas.Result.{err_from_is_err_and}
+use Rattle.std.proofs.{Common.{◌∙◌, sym}, lemmas.{Bool.false≢true, Result.err_from_is_err_and}}
 use Rattle.source_server.proofs.LineLemmas.{last_settled, last_stopped}
 use Rattle.source_server.proofs.lines.LinesResponder.end.Goals as goal
 

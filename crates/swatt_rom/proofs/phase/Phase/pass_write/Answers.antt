@@ -1,7 +1,6 @@
 use Rattle.std.proofs.Common.{◌≡◌, ◌+◌, ◌++◌, ◌∷◌, ◌∙◌, [], ℕ, List, length, length-append, refl, subst, sym, rules, arith}
 use Rattle.part_definitions.specs.Request.{ATTESTS}
-use Rattle.swatt_rom.specs.{RomCall.next_word, Phase.{PhaseStandsFor, IsBeforeReturn}, declared.phase.Phase.TheVariants.{WritesDerivedKey, WritesInnerDigest, WritesMac}}
-use Rattle.swatt_rom.proofs.{WordsPassed.{bounds_read-append, call_key-append, metadata_read-append, decision_read-append}, Accesses.next_word-decision, Steps.{goes_on, ends_with, decided-more, decided-denies, decided-attests, derived_key-more, inner_digest-more, inner_digest-last, mac-last, mac-more}}
+use Rattle.swatt_rom.{specs.{RomCall.next_word, Phase.{PhaseStandsFor, IsBeforeReturn}, declared.phase.Phase.TheVariants.{WritesDerivedKey, WritesInnerDigest, WritesMac}}, proofs.{WordsPassed.{bounds_read-append, call_key-append, metadata_read-append, decision_read-append}, Accesses.next_word-decision, Steps.{goes_on, ends_with, decided-more, decided-denies, decided-attests, derived_key-more, inner_digest-more, inner_digest-last, mac-last, mac-more}}}
 use Rattle.swatt_rom.proofs.phase.Phase.pass_write.Goals as goal
 
 pub returns-in-WritesHighWord : goal.returns-in-WritesHighWord

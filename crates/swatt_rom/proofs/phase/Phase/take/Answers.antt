@@ -1,7 +1,6 @@
 use Rattle.std.proofs.Common.{◌≡◌, ◌+◌, ◌++◌, ◌∷◌, ◌∙◌, [], ap, subst, sym, rules}
 use Rattle.part_definitions.specs.Attestation.{region_words}
-use Rattle.swatt_rom.specs.{RomCall.next_word, Phase.PhaseStandsFor, declared.phase.Phase.TheVariants.{ReadsRequest, ReadsRegion}}
-use Rattle.swatt_rom.proofs.{Accesses.{write-of, next_word-request, next_word-region}, Steps.{goes_on, region-more, region-last}}
+use Rattle.swatt_rom.{specs.{RomCall.next_word, Phase.PhaseStandsFor, declared.phase.Phase.TheVariants.{ReadsRequest, ReadsRegion}}, proofs.{Accesses.{write-of, next_word-request, next_word-region}, Steps.{goes_on, region-more, region-last}}}
 use Rattle.swatt_rom.proofs.phase.Phase.take.Goals as goal
 
 pub returns-in_err-words-in-ReadsRequest : goal.returns-in_err-words-in-ReadsRequest

@@ -1,8 +1,7 @@
 use Rattle.std.proofs.Common.{◌∙◌, Some, ap, subst}
 use Rattle.word_arith.specs.declared.size.Size.TheVariants.{Word}
 use Rattle.device_types.specs.declared.access.Access.TheVariants.{Read}
-use Rattle.swatt_rom.specs.Rom.{StateStandsFor}
-use Rattle.swatt_rom.proofs.WordsPassed.{access-returns}
+use Rattle.swatt_rom.{specs.Rom.StateStandsFor, proofs.WordsPassed.access-returns}
 use Rattle.swatt_rom.proofs.state.State.access.Goals as goal
 
 pub returns-in-Returns-clause-access : goal.returns-in-Returns-clause-access

@@ -1,6 +1,5 @@
 use Rattle.std.proofs.Common.{subst}
-use Rattle.swatt_rom.specs.Rom.{StateStandsFor}
-use Rattle.swatt_rom.proofs.WordsPassed.{pc-returns}
+use Rattle.swatt_rom.{specs.Rom.StateStandsFor, proofs.WordsPassed.pc-returns}
 use Rattle.swatt_rom.proofs.state.State.pc.Goals as goal
 
 pub returns-in-Returns : goal.returns-in-Returns

@@ -1,6 +1,5 @@
 use Rattle.std.proofs.Common.{subst, rules}
-use Rattle.swatt_rom.specs.Rom.{StateStandsFor}
-use Rattle.swatt_rom.proofs.{WordsPassed.after_value-leaves, Accesses.{after_value-calls, after_value-returns}}
+use Rattle.swatt_rom.{specs.Rom.StateStandsFor, proofs.{WordsPassed.after_value-leaves, Accesses.{after_value-calls, after_value-returns}}}
 use Rattle.swatt_rom.proofs.state.State.take.Goals as goal
 
 pub returns-in-None : goal.returns-in-None

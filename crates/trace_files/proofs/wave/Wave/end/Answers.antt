@@ -1,8 +1,6 @@
-use Rattle.std.proofs.Common.{List, ℕ, Option, ◌∙◌, ap, subst, sym}
-use Rattle.std.specs.Prelude.{option_copied}
+use Rattle.std.{proofs.Common.{List, ℕ, Option, ◌∙◌, ap, subst, sym}, specs.Prelude.option_copied}
 use Rattle.outside_edge.specs.Sink.{Puts}
-use Rattle.trace_files.specs.{declared.sample.Sample.Sample, WaveText.{shown_now, told_text}}
-use Rattle.trace_files.proofs.Ends.{end_told}
+use Rattle.trace_files.{specs.{declared.sample.Sample.Sample, WaveText.{shown_now, told_text}}, proofs.Ends.end_told}
 use Rattle.trace_files.proofs.wave.Wave.end.Goals as goal
 
 pub returns-clause-puts : goal.returns-clause-puts

@@ -1,7 +1,6 @@
 use Rattle.std.proofs.Common.{[], sym, subst}
 use Rattle.text_scan.specs.Word.{words_of}
-use Rattle.verifier_desk.specs.{Answering.Answers, DeskLine.DeskLine, Reply.reply_in}
-use Rattle.verifier_desk.proofs.SilentLine.{silent_is, same_reply}
+use Rattle.verifier_desk.{specs.{Answering.Answers, DeskLine.DeskLine, Reply.reply_in}, proofs.SilentLine.{silent_is, same_reply}}
 use Rattle.verifier_desk.proofs.desk.Desk.answer.Goals as goal
 
 pub returns-clause-answers : goal.returns-clause-answers

@@ -1,11 +1,8 @@
-use Rattle.std.proofs.Common.{rules, ◌≡◌, ◌<◌, ◌∙◌, ap, sym, ℕ, List, ◌∷◌, length, true, refl}
-use Rattle.std.specs.Prelude.{slice_index_or}
-use Rattle.std.proofs.lemmas.Result.{err_from_is_err_and}
+use Rattle.std.{proofs.{Common.{rules, ◌≡◌, ◌<◌, ◌∙◌, ap, sym, ℕ, List, ◌∷◌, length, true, refl}, lemmas.Result.err_from_is_err_and}, specs.Prelude.slice_index_or}
 use Rattle.sha2.specs.Sha256.{sha256}
 use Rattle.report_verifier.specs.Judge.{Judge}
 use Rattle.desk_memory.specs.{declared.device_state.DeviceState.DeviceState, DeviceState.is_new}
-use Rattle.verifier_desk.specs.{DeviceKey.DeviceKey, DeskLine.{DeviceLine, line_in}, DeviceReply.{answer_after, is_new_give, state_after}, Reply.ReplyFields, Replies.{answer_line, judge_at, state_at}}
-use Rattle.verifier_desk.proofs.{DeskError.{on_error, same_desk}, NotedReply.line_noted, Standing.{kept_at_its_place, said_at_place, same_device}}
+use Rattle.verifier_desk.{specs.{DeviceKey.DeviceKey, DeskLine.{DeviceLine, line_in}, DeviceReply.{answer_after, is_new_give, state_after}, Reply.ReplyFields, Replies.{answer_line, judge_at, state_at}}, proofs.{DeskError.{on_error, same_desk}, NotedReply.line_noted, Standing.{kept_at_its_place, said_at_place, same_device}}}
 use Rattle.verifier_desk.proofs.desk.Desk.answer_at.Goals as goal
 
 pub returns-in_err-outcome-clause-kept : goal.returns-in_err-outcome-clause-kept

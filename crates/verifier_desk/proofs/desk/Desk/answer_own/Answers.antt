@@ -1,7 +1,5 @@
-use Rattle.std.proofs.Common.{rules, ◌≡◌, ◌∙◌, ap, sym, subst, ℕ, List, [], Option, Some}
-use Rattle.std.specs.Prelude.{slice_index_or}
-use Rattle.verifier_desk.specs.{Answering.Answers, DeviceKey.{DeviceKey, key_named}, DeskLine.own_or_none}
-use Rattle.verifier_desk.proofs.Standing.{device_at}
+use Rattle.std.{proofs.Common.{rules, ◌≡◌, ◌∙◌, ap, sym, subst, ℕ, List, [], Option, Some}, specs.Prelude.slice_index_or}
+use Rattle.verifier_desk.{specs.{Answering.Answers, DeviceKey.{DeviceKey, key_named}, DeskLine.own_or_none}, proofs.Standing.device_at}
 use Rattle.verifier_desk.proofs.desk.Desk.answer_own.Goals as goal
 
 no_device : DeviceKey

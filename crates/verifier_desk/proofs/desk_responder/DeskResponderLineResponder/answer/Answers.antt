@@ -1,5 +1,4 @@
-use Rattle.verifier_desk.specs.Telling.{outside_at}
-use Rattle.verifier_desk.proofs.MoreLines.{grows_more}
+use Rattle.verifier_desk.{specs.Telling.outside_at, proofs.MoreLines.grows_more}
 use Rattle.verifier_desk.proofs.desk_responder.DeskResponderLineResponder.answer.Goals as goal
 
 pub returns-clause-answers : goal.returns-clause-answers

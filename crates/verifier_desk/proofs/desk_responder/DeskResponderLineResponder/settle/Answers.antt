@@ -1,6 +1,5 @@
 use Rattle.std.proofs.Common.{refl}
-use Rattle.verifier_desk.specs.Telling.{outside_at}
-use Rattle.verifier_desk.proofs.{DeskServed.lines_settled, MoreLines.grows_more}
+use Rattle.verifier_desk.{specs.Telling.outside_at, proofs.{DeskServed.lines_settled, MoreLines.grows_more}}
 use Rattle.verifier_desk.proofs.desk_responder.DeskResponderLineResponder.settle.Goals as goal
 
 pub returns-clause-settles : goal.returns-clause-settles

@@ -1,7 +1,5 @@
-use Rattle.std.proofs.Common.{◌∙◌, arith, ap, sym}
-use Rattle.std.specs.Str.{bytes_eq}
-use Rattle.verifier_desk.specs.DeviceKey.{place_in}
-use Rattle.verifier_desk.proofs.{KeyPlaces.place_named, PlacedWords.{missed, missed_behind, missed_there, placed_there, unplaced}}
+use Rattle.std.{proofs.Common.{◌∙◌, arith, ap, sym}, specs.Str.bytes_eq}
+use Rattle.verifier_desk.{specs.DeviceKey.place_in, proofs.{KeyPlaces.place_named, PlacedWords.{missed, missed_behind, missed_there, placed_there, unplaced}}}
 use Rattle.verifier_desk.proofs.key_list.KeyList.first_named.Goals as goal
 
 pub returns-in_err-place : goal.returns-in_err-place

@@ -1,7 +1,5 @@
-use Rattle.std.proofs.Common.{◌∙◌, arith, ap, sym}
-use Rattle.verifier_desk.specs.DeviceKey.{has_key, place_in}
-use Rattle.std.specs.Str.{bytes_eq}
-use Rattle.verifier_desk.proofs.PlacedWords.{keyed_there, missed, missed_behind, unkeyed}
+use Rattle.std.{proofs.Common.{◌∙◌, arith, ap, sym}, specs.Str.bytes_eq}
+use Rattle.verifier_desk.{specs.DeviceKey.{has_key, place_in}, proofs.PlacedWords.{keyed_there, missed, missed_behind, unkeyed}}
 use Rattle.verifier_desk.proofs.key_list.KeyList.has_key.Goals as goal
 
 pub returns-then-place-len : goal.returns-then-place-len

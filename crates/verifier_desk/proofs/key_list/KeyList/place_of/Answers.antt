@@ -1,6 +1,5 @@
 use Rattle.std.proofs.Common.{◌≡◌, sym, subst, ℕ, Option, List}
-use Rattle.verifier_desk.specs.DeviceKey.{DeviceKey}
-use Rattle.verifier_desk.proofs.KeyPlaces.{IsPlaceOf, place_named, placed, place_within, place_found, place_key, place_none}
+use Rattle.verifier_desk.{specs.DeviceKey.DeviceKey, proofs.KeyPlaces.{IsPlaceOf, place_named, placed, place_within, place_found, place_key, place_none}}
 use Rattle.verifier_desk.proofs.key_list.KeyList.place_of.Goals as goal
 
 is_place : (name : List ℕ) (devices : List DeviceKey) (place : Option ℕ)

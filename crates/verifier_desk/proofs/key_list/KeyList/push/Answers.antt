@@ -1,6 +1,5 @@
 use Rattle.std.proofs.Common.{◌∙◌, ap, subst, sym}
-use Rattle.verifier_desk.specs.DeviceKey.{key_named, has_key, ArePlaced}
-use Rattle.verifier_desk.proofs.{KeyPlaces.distinct_with, PlacedWords.{kept_places, places_with, new_name, new_key}}
+use Rattle.verifier_desk.{specs.DeviceKey.{key_named, has_key, ArePlaced}, proofs.{KeyPlaces.distinct_with, PlacedWords.{kept_places, places_with, new_name, new_key}}}
 use Rattle.verifier_desk.proofs.key_list.KeyList.push.Goals as goal
 
 pub invariant_of-self : goal.invariant_of-self

@@ -1,7 +1,4 @@
-use Rattle.std.proofs.Common.{Some, subst, List, ℕ}
-use Rattle.std.specs.BTreeMap.{UpdatesBy}
-use Rattle.std.specs.Cmp.Lexicographic.{slice_cmp}
-use Rattle.std.specs.Ordering.{nat_cmp}
+use Rattle.std.{proofs.Common.{Some, subst, List, ℕ}, specs.{BTreeMap.UpdatesBy, Cmp.Lexicographic.slice_cmp, Ordering.nat_cmp}}
 use Rattle.verifier_desk.proofs.PlaceMap.{place_of-update}
 use Rattle.verifier_desk.proofs.places.Places.insert.Goals as goal
 

@@ -1,6 +1,5 @@
 use Rattle.hex_loader.specs.HexText.{hex_text}
-use Rattle.device_cli.specs.{FileKind.source_kind, Row.{plain, put}, Answer.IsPutLawfully}
-use Rattle.device_cli.proofs.LawfulRow.{read-always}
+use Rattle.device_cli.{specs.{FileKind.source_kind, Row.{plain, put}, Answer.IsPutLawfully}, proofs.LawfulRow.read-always}
 use Rattle.device_cli.proofs.command.asm.AsmTask.read.Goals as goal
 
 pub returns-clause-reads : goal.returns-clause-reads

@@ -1,5 +1,4 @@
-use Rattle.device_cli.specs.{Command.audit_outcome, FileKind.trace_kind, Row.put, Answer.IsPutLawfully}
-use Rattle.device_cli.proofs.LawfulRow.{read-always}
+use Rattle.device_cli.{specs.{Command.audit_outcome, FileKind.trace_kind, Row.put, Answer.IsPutLawfully}, proofs.LawfulRow.read-always}
 use Rattle.device_cli.proofs.command.audit.AuditTask.read.Goals as goal
 
 pub returns-clause-reads : goal.returns-clause-reads

@@ -1,7 +1,6 @@
 use Rattle.msp_asm.specs.Listing.{listing}
 use Rattle.input_files.specs.FileKind.{image_kind}
-use Rattle.device_cli.specs.{Row.{plain, put}, Answer.IsPutLawfully}
-use Rattle.device_cli.proofs.LawfulRow.{read-always}
+use Rattle.device_cli.{specs.{Row.{plain, put}, Answer.IsPutLawfully}, proofs.LawfulRow.read-always}
 use Rattle.device_cli.proofs.command.list.ListTask.read.Goals as goal
 
 pub returns-clause-reads : goal.returns-clause-reads

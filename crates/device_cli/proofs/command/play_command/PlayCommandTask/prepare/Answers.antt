@@ -1,6 +1,5 @@
 use Rattle.mem_map.specs.Image.{byte_in}
-use Rattle.device_cli.specs.{Play.play_with, Row.DevicePlay}
-use Rattle.device_cli.proofs.WithoutDevice.{without-device}
+use Rattle.device_cli.{specs.{Play.play_with, Row.DevicePlay}, proofs.WithoutDevice.without-device}
 use Rattle.device_cli.proofs.command.play_command.PlayCommandTask.prepare.Goals as goal
 
 pub returns-clause-refused : goal.returns-clause-refused

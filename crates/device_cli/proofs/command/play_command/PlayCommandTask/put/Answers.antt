@@ -1,7 +1,6 @@
 use Rattle.std.proofs.Common.{ap, sym, refl}
 use Rattle.mem_map.specs.Image.{byte_in}
-use Rattle.device_cli.specs.{Play.play_with, Row.{DevicePlay, ending_of}}
-use Rattle.device_cli.proofs.Unanswered.{fails}
+use Rattle.device_cli.{specs.{Play.play_with, Row.{DevicePlay, ending_of}}, proofs.Unanswered.fails}
 use Rattle.device_cli.proofs.command.play_command.PlayCommandTask.put.Goals as goal
 
 pub returns-in_err-tell-clause-puts : goal.returns-in_err-tell-clause-puts

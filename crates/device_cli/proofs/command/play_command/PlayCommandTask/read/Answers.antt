@@ -1,5 +1,4 @@
-use Rattle.device_cli.specs.{Play.play_with, Row.put}
-use Rattle.device_cli.proofs.LawfulRow.{steps_row_lawful}
+use Rattle.device_cli.{specs.{Play.play_with, Row.put}, proofs.LawfulRow.steps_row_lawful}
 use Rattle.device_cli.proofs.command.play_command.PlayCommandTask.read.Goals as goal
 
 pub returns-clause-reads : goal.returns-clause-reads

@@ -1,6 +1,5 @@
 use Rattle.input_files.specs.FileKind.{key_kind}
-use Rattle.device_cli.specs.{Request.request_text, Row.{plain, put}, Answer.IsPutLawfully}
-use Rattle.device_cli.proofs.LawfulRow.{read-always}
+use Rattle.device_cli.{specs.{Request.request_text, Row.{plain, put}, Answer.IsPutLawfully}, proofs.LawfulRow.read-always}
 use Rattle.device_cli.proofs.command.request.RequestTask.read.Goals as goal
 
 pub returns-clause-reads : goal.returns-clause-reads

@@ -3,8 +3,7 @@ use Rattle.mem_map.specs.Image.{byte_in}
 use Rattle.play_script.specs.Script.{events_of}
 use Rattle.report_verifier.specs.Judge.{Judge, judge_with}
 use Rattle.device_play.proofs.WatchedPlay.{length-play_of}
-use Rattle.device_cli.specs.{JudgedPlay.judge_account, Play.play_with, Round.judged_outcome, RoundText.{reports_in, unanswered_in}, Row.{DevicePlay, start_in}, Verdicts.verdicts}
-use Rattle.device_cli.proofs.{Tallies.verdicts-few, Told.{made-text, stopped-puts, told-round}, Unanswered.{end-failed, ended, stopped-before}}
+use Rattle.device_cli.{specs.{JudgedPlay.judge_account, Play.play_with, Round.judged_outcome, RoundText.{reports_in, unanswered_in}, Row.{DevicePlay, start_in}, Verdicts.verdicts}, proofs.{Tallies.verdicts-few, Told.{made-text, stopped-puts, told-round}, Unanswered.{end-failed, ended, stopped-before}}}
 use Rattle.device_cli.proofs.command.round.RoundTask.put.Goals as goal
 
 pub end_verdicts-requires : goal.end_verdicts-requires

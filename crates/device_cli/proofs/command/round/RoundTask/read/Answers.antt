@@ -1,7 +1,6 @@
 use Rattle.std.proofs.Common.{refl}
 use Rattle.input_files.proofs.ReadInTurn.{first-refused}
-use Rattle.device_cli.specs.{Round.round_outcome, Row.put}
-use Rattle.device_cli.proofs.{LawfulRow.round_row_lawful, NamedRead.named-read}
+use Rattle.device_cli.{specs.{Round.round_outcome, Row.put}, proofs.{LawfulRow.round_row_lawful, NamedRead.named-read}}
 use Rattle.device_cli.proofs.command.round.RoundTask.read.Goals as goal
 
 pub returns-in_err-values-clause-reads : goal.returns-in_err-values-clause-reads

@@ -3,8 +3,7 @@ use Rattle.mem_map.specs.Image.{byte_in}
 use Rattle.outside_edge.proofs.SinkLemmas.{prefix_of_more}
 use Rattle.report_verifier.specs.Judge.{Judge, judge_with}
 use Rattle.device_trace.specs.Text.{some_line}
-use Rattle.device_cli.specs.{Unanswered.{unanswered_if, unanswered_line}, Verdicts.{lines_from, verdicts}, Verify.{verdicts_outcome, verify_outcome}}
-use Rattle.device_cli.proofs.{Unanswered.{fails, end-failed, ended}, Tallies.leading-few}
+use Rattle.device_cli.{specs.{Unanswered.{unanswered_if, unanswered_line}, Verdicts.{lines_from, verdicts}, Verify.{verdicts_outcome, verify_outcome}}, proofs.{Unanswered.{fails, end-failed, ended}, Tallies.leading-few}}
 use Rattle.device_cli.proofs.command.verify.VerifyTask.put.Goals as goal
 
 pub end_verdicts-requires : goal.end_verdicts-requires

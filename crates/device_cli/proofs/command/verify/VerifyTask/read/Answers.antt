@@ -1,8 +1,7 @@
 use Rattle.std.proofs.Common.{refl}
 use Rattle.input_files.proofs.ReadInTurn.{first-refused}
-use Rattle.device_cli.specs.{Row.put, Verify.verify_outcome}
+use Rattle.device_cli.{specs.{Row.put, Verify.verify_outcome}, proofs.{LawfulRow.verify_row_lawful, NamedRead.named-read}}
 use Rattle.report_verifier.specs.Judge.{judge_with}
-use Rattle.device_cli.proofs.{LawfulRow.verify_row_lawful, NamedRead.named-read}
 use Rattle.device_cli.proofs.command.verify.VerifyTask.read.Goals as goal
 
 pub returns-in_err-values-clause-reads : goal.returns-in_err-values-clause-reads

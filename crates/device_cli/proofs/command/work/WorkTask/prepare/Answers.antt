@@ -1,6 +1,5 @@
 use Rattle.std.proofs.Common.{◌∙◌}
-use Rattle.device_cli.specs.Load.{load_text}
-use Rattle.device_cli.proofs.LoadText.{load_text-of, load_counts-fit, load-without_device, never-fails, told-summary}
+use Rattle.device_cli.{specs.Load.load_text, proofs.LoadText.{load_text-of, load_counts-fit, load-without_device, never-fails, told-summary}}
 use Rattle.device_cli.proofs.command.work.WorkTask.prepare.Goals as goal
 
 pub returns-in_err-device-clause-refused : goal.returns-in_err-device-clause-refused

@@ -1,7 +1,6 @@
 use Rattle.device_play.proofs.WriteCounts.{takes-nothing}
 use Rattle.report_verifier.specs.Judge.{judge_of}
-use Rattle.device_cli.specs.RoundText.{round_pieces}
-use Rattle.device_cli.proofs.{RoundLines.judge-goes_on, Tallies.tally-none}
+use Rattle.device_cli.{specs.RoundText.round_pieces, proofs.{RoundLines.judge-goes_on, Tallies.tally-none}}
 use Rattle.device_cli.proofs.verdict.judging.JudgingWatcher.begin.Goals as goal
 
 pub returns-clause-goes_on : goal.returns-clause-goes_on

@@ -3,8 +3,7 @@ use Rattle.device_trace.specs.{Logs.flags_of, Trace.logs_after, Text.{lines_of_s
 use Rattle.outside_edge.proofs.SinkLemmas.{prefix_of_more}
 use Rattle.report_verifier.specs.Judge.{Judge, judge_of}
 use Rattle.device_play.proofs.{SeenStep.seen-failed, WriteCounts.counts-passed}
-use Rattle.device_cli.specs.{JudgedPlay.judge_account, Judgement.remark_lines, RoundText.reports_in}
-use Rattle.device_cli.proofs.{RoundLines.{judged-failed, judged-seen, remark, last_report-output}, Tallies.{counted-few, verdicts-few}}
+use Rattle.device_cli.{specs.{JudgedPlay.judge_account, Judgement.remark_lines, RoundText.reports_in}, proofs.{RoundLines.{judged-failed, judged-seen, remark, last_report-output}, Tallies.{counted-few, verdicts-few}}}
 use Rattle.device_cli.proofs.verdict.judging.JudgingWatcher.see.Goals as goal
 
 pub judge_last-requires : goal.judge_last-requires
