@@ -1,6 +1,5 @@
 pub mod Behind
 pub mod Cuts
 pub mod TokenSteps
-pub mod TermSteps
 pub mod NumberSteps
 pub mod FirstFault

@@ -1,2 +1,1 @@
-pub mod DebugRun
 pub mod ServedSession

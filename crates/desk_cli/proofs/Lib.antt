@@ -1,6 +1,3 @@
-pub mod AdoptedLines
-pub mod DepartedAnswer
-pub mod DeskAnswer
 pub mod DeskComplete
 pub mod FoundEntries
 pub mod MoveAnswer

@@ -1,12 +1,9 @@
-pub mod Committing
 pub mod Moved
-pub mod Reasons
 pub mod TableRows
 pub mod FailLemmas
 pub mod CatalogLemmas
 pub mod HeldLemmas
 pub mod FilesLemmas
-pub mod TableLemmas
 pub mod TableRead
 pub mod StepLemmas
 pub mod LogLemmas

@@ -3,7 +3,5 @@ pub mod Lives
 pub mod Alive
 pub mod ToCome
 pub mod Answered
-pub mod MemoryParts
 pub mod Played
 pub mod Told
-pub mod Served

@@ -1,4 +1,2 @@
 pub mod Byte
 pub mod Ticks
-pub mod OrderLemmas
-pub mod Transfer

@@ -1,4 +1,2 @@
 pub mod Complete
-pub mod FileRead
 pub mod ReadInTurn
-pub mod WordsBehind

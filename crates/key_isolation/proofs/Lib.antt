@@ -14,4 +14,3 @@ pub mod Induction
 pub mod TextBlank
 pub mod TwoKeys
 pub mod OpenRecords
-pub mod CallDigests

@@ -4,9 +4,7 @@ pub mod Through
 pub mod Token
 pub mod Placed
 pub mod AsOne
-pub mod Counters
 pub mod KeyPairs
 pub mod OneName
 pub mod Again
 pub mod Possible
-pub mod Printed

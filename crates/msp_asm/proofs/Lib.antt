@@ -1,13 +1,8 @@
 pub mod ValueSum
 pub mod Lists
-pub mod NameMap
 pub mod OperandWords
 pub mod InstructionWords
 pub mod StatementSize
-pub mod Placing
-pub mod PlacesLeft
-pub mod FirstPassMore
 pub mod LinesSoFar
 pub mod SecondPassMore
 pub mod HasBytes
-pub mod NextLines

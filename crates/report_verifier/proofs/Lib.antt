@@ -5,4 +5,3 @@ pub mod Acceptance
 pub mod PolicyBounds
 pub mod Regions
 pub mod Pushes
-pub mod WideNumbers

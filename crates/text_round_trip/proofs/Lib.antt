@@ -7,11 +7,9 @@ pub mod ListedInstruction
 pub mod ListedJump
 pub mod ListedItem
 pub mod ListedPlace
-pub mod PlainItem
 pub mod WrittenExpr
 pub mod WrittenStatement
 pub mod WrittenDirective
 pub mod PrintedText
 pub mod WrittenSource
-pub mod PlayLines
 pub mod PrintableReport

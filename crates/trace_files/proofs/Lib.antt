@@ -2,17 +2,13 @@ pub mod LineReadBack
 pub mod Spans
 pub mod Exec
 pub mod FileAudit
-pub mod Clearing
 pub mod Binary
-pub mod Pieces
 pub mod Others
-pub mod Ends
 pub mod Fitting
 pub mod Reading
 pub mod Stages
 pub mod Changes
 pub mod Steps
-pub mod WaveReadBack
 pub mod Rows
 pub mod Right
 pub mod SameText

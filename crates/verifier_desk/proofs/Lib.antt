@@ -1,7 +1,5 @@
-pub mod ServedAlone
 pub mod AcceptedOnce
 pub mod Repeated
-pub mod Answered
 pub mod Standing
 pub mod HeldReplies
 pub mod Remembered
@@ -9,11 +7,6 @@ pub mod GoneOn
 pub mod KeyOwners
 pub mod KeyMarks
 pub mod KeyPlaces
-pub mod PlaceMap
 pub mod PlacedWords
-pub mod SilentLine
-pub mod DeskError
-pub mod NotedReply
 pub mod MoreLines
-pub mod KeyMessages
 pub mod DeskServed

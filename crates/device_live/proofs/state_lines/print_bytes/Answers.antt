@@ -1,10 +1,22 @@
-use Rattle.std.proofs.{Common.{◌≡◌, ◌<◌, ◌∙◌, ◌++◌, ◌∷◌, ap, arith, codes, length, subst, sym}, lemmas.Bool.Decides.nat_tests}
+-- The line that shows bytes, as it is put.
+use Rattle.std.proofs.{Common.{◌≡◌, ◌<◌, ◌++◌, ℕ, [], ◌∷◌, ap, append_assoc, arith, codes, length, sym, ◌∙◌, subst}, lemmas.Bool.Decides.nat_tests}
 use Rattle.device_types.specs.Address.{Bytes}
 use Rattle.hex.specs.Hex.{encode_lower}
-use Rattle.outside_edge.{specs.Sink.{Puts, TakesPrefix}, proofs.SinkLemmas.{prefix_of_more, puts-failed, puts_after}}
 use Rattle.printed_lines.specs.Line.{word_digits}
-use Rattle.device_live.proofs.MemoryParts.{memory-parts, memory_head}
+use Rattle.device_live.specs.Answer.{memory_text}
+use Rattle.outside_edge.{specs.Sink.{Puts, TakesPrefix}, proofs.SinkLemmas.{prefix_of_more, puts-failed, puts_after}}
 use Rattle.device_live.proofs.state_lines.print_bytes.Goals as goal
+
+abbrev memory_head : ℕ → Bytes
+memory_head place = (codes "memory" ++ 32 ∷ word_digits place) ++ codes " "
+
+memory-parts : (place : ℕ) (bytes : Bytes) → 0 < length bytes
+    → memory_text place bytes ≡ (memory_head place ++ encode_lower bytes) ++ codes "\n"
+memory-parts place [] some = absurd (omega (arith, some))
+memory-parts place (byte ∷ bytes) some =
+    ap (λ (text : Bytes). text ++ codes "\n")
+    (sym (append_assoc (codes "memory" ++ 32 ∷ word_digits place) (codes " ")
+    (encode_lower (byte ∷ bytes))))
 
 pub returns-in_err-print_digits-clause-puts : goal.returns-in_err-print_digits-clause-puts
 returns-in_err-print_digits-clause-puts g c =

@@ -1,8 +1,25 @@
-use Rattle.std.proofs.{Common.{◌++◌, ℕ, List, sym, ◌∙◌, ap, append_assoc}, Math.Path.subst}
-use Rattle.hex.specs.Hex.{encode_lower}
+-- The digits of bytes that are put in pieces.
+use Rattle.std.proofs.{Common.{◌≡◌, ◌++◌, ℕ, List, [], ◌∷◌, take, drop, refl, ap, sym, ◌∙◌, append_assoc}, lemmas.List.take-append-drop, Math.Path.subst}
+use Rattle.hex.specs.Hex.{encode_with, encode_lower}
 use Rattle.outside_edge.{specs.Sink.TakesPrefix, proofs.SinkLemmas.{prefix_after, prefix_of_more, puts_after, puts-failed, takes_both}}
-use Rattle.report_text.proofs.HexPieces.{encode_lower-pieces}
 use Rattle.report_text.proofs.printed_digits.print_hex.Goals as goal
+
+encode_lower-append :
+    (piece rest : List ℕ) → encode_lower (piece ++ rest) ≡ encode_lower piece ++ encode_lower rest
+unfolding encode_with
+encode_lower-append [] rest = refl
+encode_lower-append (byte ∷ piece) rest =
+    ap (λ digits. encode_lower (byte ∷ []) ++ digits) (encode_lower-append piece rest)
+
+-- of the first so many bytes and of those after them
+encode_lower-pieces :
+    (count : ℕ) (bytes piece later : List ℕ)
+    → piece ≡ take count bytes
+    → later ≡ drop count bytes
+    → encode_lower piece ++ encode_lower later ≡ encode_lower bytes
+encode_lower-pieces count bytes piece later prefix back =
+    sym (encode_lower-append piece later)
+    ∙ ap encode_lower (rw (prefix, back) (take-append-drop count bytes))
 
 pub returns-in_err-print_piece-clause-puts : goal.returns-in_err-print_piece-clause-puts
 returns-in_err-print_piece-clause-puts g c =
