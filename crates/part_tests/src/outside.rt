@@ -5,6 +5,7 @@ mod fake_files;
 mod file_shelf;
 mod std_sink;
 mod std_source;
+mod told_file;
 
 use std::io::{Error, ErrorKind};
 

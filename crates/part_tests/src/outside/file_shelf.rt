@@ -1,6 +1,7 @@
 //! Files that are opened, and fail in every way.
 
 use crate::outside::fake_files::{FakeFile, FakeFiles, Opening};
+use crate::outside::told_file::ToldFile;
 use outside_edge::{FileFault, FileOpener, FileShelf, Shelf, ShelfError, read_whole};
 use std::test::Fail;
 
@@ -165,4 +166,22 @@ fn a_name_is_passed_as_it_is(rt: HostRuntime) {
         ("lo", 0, 8, Ok(b"d")),
     ];
     assert_eq!(rt; first_wrong_of(&openings, &rows), None);
+}
+
+// Of a file that its opener tells, so that each piece is what the shelf's clauses say.
+#[test]
+fn told_file_is_told_by_the_shelf(rt: HostRuntime) {
+    let rows: [Row<'_>; 5] = [
+        ("log", 0, 3, Ok(b"abc")),
+        ("log", 9, 8, Ok(b"j")),
+        ("key", 0, 8, Err(ShelfError::Absent)),
+        ("log", 11, 8, Ok(b"")),
+        ("log", 1, 3, Ok(b"bcd")),
+    ];
+    let mut shelf = FileShelf::new(ToldFile {
+        name: "log",
+        bytes: b"abcdefghij",
+        place: 0,
+    });
+    assert_eq!(rt; first_wrong(&mut shelf, &rows), None);
 }
