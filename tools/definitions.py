@@ -104,6 +104,8 @@ class File:
         if name in self.definitions:
             return self.definitions[name]
         path, item = self.imports.get(name, ([], ""))
+        if item is None and not (fields and fields[0][:1].isupper()):
+            return None  # (a variable that is called as a module is)
         return self.crates.find(self.crate, path, item or (fields or [""])[0]) if path else None
 
 
