@@ -229,7 +229,8 @@ module _ {D W : Type 0} (hash : Hash D) (w : SinkGhosts W) (run : Run) (stops : 
                   stop_is = refl;
                 });
                 put = subst (HasPut w old new) (sym lines-end)
-                    (put_both w old mid new told_put (bodies_of waiting) going.way.has_put puts.all);
+                    (put_both w old mid new told_put (bodies_of waiting) going.way.has_put
+                    puts.all);
                 prefix = tt;
               }
 

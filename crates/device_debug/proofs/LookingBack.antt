@@ -160,7 +160,8 @@ module _ {D : Type 0} (hash : Hash D) (run : Run) (stops : Stops) (step : Option
           plain-past at past before here =
               plain-none (view_of run at).boundary (plain_at run stops step from at)
               (rw (← view-here at (omega (arith, before, bounds)))
-              (passed at (omega (arith, past, looks.place_is)) (omega (arith, before, bounds))).plain)
+              (passed at (omega (arith, past, looks.place_is))
+              (omega (arith, before, bounds))).plain)
               here
 
           plain-here : place < there → begin < place → plain_at run stops step from place ≡ false

@@ -83,8 +83,9 @@ returns-in_err-stopped-clause-goes_on g c = λ run place track stands.
     let at = c.loop-passing in
     let next = c.play_row-walk.result in
     let same : c.place-from.result ≡ place = c.place-from.ensures ∙ stands.place_is in
-    let row = row-of g (goal.at.returns-in_err-stopped-clause-goes_on g c).After-stop_before run track
-    (rw same stands) in
+    let row =
+    row-of g (goal.at.returns-in_err-stopped-clause-goes_on g c).After-stop_before
+    run track (rw same stands) in
     let found = refused_at (view_of run) c.place-from.result (step_before next) in (
       None,
       some-came _ _ _ (c.ends_way.ensures.came _ at.invariant.came),
@@ -104,8 +105,9 @@ returns-in-Some-clause-goes_on g c = λ run place track stands.
     let at = c.loop-passing in
     let next = c.play_row-walk.result in
     let same : c.place-from.result ≡ place = c.place-from.ensures ∙ stands.place_is in
-    let row = row-of g (goal.at.returns-in-Some-clause-goes_on g c).After-stop_before run track
-    (rw same stands) in
+    let row =
+    row-of g (goal.at.returns-in-Some-clause-goes_on g c).After-stop_before
+    run track (rw same stands) in
     let found = refused_at (view_of run) c.place-from.result (step_before next) in (
       None,
       some-came _ _ _ (c.ends_way.ensures.came _ at.invariant.came),
@@ -124,8 +126,9 @@ returns-in_err-tell_step-clause-goes_on g c = λ run place track stands.
     let at = c.loop-passing in
     let next = c.play_row-walk.result in
     let same : c.place-from.result ≡ place = c.place-from.ensures ∙ stands.place_is in
-    let row = row-of g (goal.at.returns-in_err-tell_step-clause-goes_on g c).After-stop_before run track
-    (rw same stands) in
+    let row =
+    row-of g (goal.at.returns-in_err-tell_step-clause-goes_on g c).After-stop_before
+    run track (rw same stands) in
     let none = before-none g.D.Digest32.hash g.W.Sink run c.args.stops.now
     (step_in c.args.seek.now) c.place-from.result c.args.packets.now at.packets next at.waiting
     row.passed c.stop_before.new.packets
@@ -150,8 +153,9 @@ returns-in-Some-cause_here-clause-goes_on g c = λ run place track stands.
     let at = c.loop-passing in
     let next = c.play_row-walk.result in
     let same : c.place-from.result ≡ place = c.place-from.ensures ∙ stands.place_is in
-    let row = row-of g (goal.at.returns-in-Some-cause_here-clause-goes_on g c).After-stop_before run track
-    (rw same stands) in
+    let row =
+    row-of g (goal.at.returns-in-Some-cause_here-clause-goes_on g c).After-stop_before
+    run track (rw same stands) in
     let none = before-none g.D.Digest32.hash g.W.Sink run c.args.stops.now
     (step_in c.args.seek.now) c.place-from.result c.args.packets.now at.packets next at.waiting
     row.passed c.stop_before.new.packets
@@ -159,7 +163,8 @@ returns-in-Some-cause_here-clause-goes_on g c = λ run place track stands.
     (rw c.in_default.is at (c.in_ok-stopped.ensures.stops run row.left row.walks)) in
     let is = cause-is g.D.Digest32.hash g.W.Sink run c.args.stops.now (step_in c.args.seek.now)
     c.place-from.result c.args.packets.now at.packets next at.waiting row.passed
-    (Some c.in-Some-cause_here.stop) (c.in-Some-cause_here.ensures run row.walks row.passed.tells) in (
+    (Some c.in-Some-cause_here.stop)
+    (c.in-Some-cause_here.ensures run row.walks row.passed.tells) in (
       None,
       some-came _ _ _ (c.ends_way.ensures.came _ at.invariant.came),
       rw same at (stops-there g.D.Digest32.hash g.W.Sink run c.args.stops.now
@@ -191,16 +196,17 @@ loop-passing-preserved g c =
         c.play_row-walk.ensures.walks run (at.invariant.stays run track walks).1,
       );
       going = λ run track here.
-          let row = row-of g (goal.at.loop-passing-preserved g c).After-stop_before run track here in
+          let row =
+          row-of g (goal.at.loop-passing-preserved g c).After-stop_before run track here in
           let none = before-none g.D.Digest32.hash g.W.Sink run c.args.stops.now
-          (step_in c.args.seek.now) c.place-from.result c.args.packets.now at.packets next at.waiting
-          row.passed c.stop_before.new.packets
+          (step_in c.args.seek.now) c.place-from.result c.args.packets.now at.packets next
+          at.waiting row.passed c.stop_before.new.packets
           (refused_at (view_of run) c.place-from.result (step_before next))
           (rw c.in_default.is at (c.in_ok-stopped.ensures.stops run row.left row.walks)) in
           let is = cause-is g.D.Digest32.hash g.W.Sink run c.args.stops.now
           (step_in c.args.seek.now) c.place-from.result c.args.packets.now at.packets next
-          at.waiting row.passed None (c.in_default-cause_here.ensures run row.walks row.passed.tells)
-          in
+          at.waiting row.passed None
+          (c.in_default-cause_here.ensures run row.walks row.passed.tells) in
           goes-on g.D.Digest32.hash g.W.Sink run c.args.stops.now (step_in c.args.seek.now)
           c.place-from.result c.args.packets.now at.packets next at.waiting row.passed none.0
           c.tell_step.new.packets c.tell_step.new.self c.in_ok-tell_step.field-0
