@@ -2,7 +2,7 @@
 use Rattle.std.{proofs.{Common.{◌≡◌, ◌∙◌, ℕ, Bool, true, false, List, [], ◌∷◌, Option, Some, None, Result, Ok, Err, IsErr, refl, ap, sym, ◌++◌, ◌≤◌, arith}, lemmas.{Option.same_Some, Bool.false≢true, List.append-nil}}, specs.Prelude.{MatchOption, codes, if◌then◌else◌, IsErrAnd}}
 use Rattle.hmac_core.specs.Hash.{Hash}
 use Rattle.outside_edge.{specs.{Sink.{Takes, TakesPrefix}, declared.sink.Sink.Ghosts as SinkGhosts}, proofs.{SinkLemmas.{prefix_after, prefix_of_more}, Counts.rose_since}}
-use Rattle.debug_link.{specs.{Conversation.{Answer, HaveCome, count_of}, Packet.{packet_of, packets_of}, Writing.{Answers, PacketSink, HasPut, CountsWriteFaults}, declared.{answer_fault.AnswerFault.{AnswerFault, TheVariants.Memory}, connection.Connection.{Connection, TheVariants.{Closed, Open}}}}, proofs.{AddedText.{put_none, packets-both, put_both}, Interrupts.none-came}}
+use Rattle.debug_link.{specs.{Conversation.{Answer, HaveCome, count_of}, Packet.{packet_of, packets_of}, Writing.{Answers, PacketSink, HasPut, CountsWriteFaults}, declared.{answer_fault.AnswerFault.{AnswerFault, TheVariants.Memory}, connection.Connection.{Connection, TheVariants.{Closed}}}}, proofs.{AddedText.{put_none, packets-both, put_both}, Interrupts.none-came}}
 use Rattle.debug_session.specs.{Command.command_of, declared.request.Request.{Request, TheVariants.Until}, Place.{Run, view_of}, Session.{Session, after_request, answer_of, closes, reply, says, with_stops}, Stops.Stops}
 use Rattle.debug_walk.specs.{Copies.played_run, Walk.OfWalk, declared.walk.Walk.Walk}
 use Rattle.device_debug.specs.{Going.StandsAt, Session.{DebuggerStandsFor, Gives, MayGive, RunSession, StandsInRun, in_run, run_at, run_reply}, declared.{debugger.Debugger.Debugger, run_debugger.RunDebugger.RunDebugger}}
@@ -164,28 +164,35 @@ module _ {D : Type 0} (hash : Hash D) where
   no-until debugger session request other stands = stands
 
 module _ {D W : Type 0} (hash : Hash D) (w : SinkGhosts W) where
-  -- one packet is put
-  pub said : (old new : PacketSink W) (debugger : Debugger D) (body : List ℕ)
+  -- one packet is put, behind which the connection is open or closed
+  pub packet-given : {old new : PacketSink W} {debugger : Debugger D} (body : List ℕ)
+      (connection : Connection)
       → Takes w.stands old.sink new.sink (packet_of body) → new.last ≡ packet_of body
-      → Gives hash w old new debugger debugger (λ session. says session body) (Ok Open)
-  said old new debugger body takes last =
+      → Gives hash w old new debugger debugger
+      (λ session. record { session = session; packets = body ∷ []; connection = connection })
+      (Ok connection)
+  packet-given {old} {new} {debugger} body connection takes last =
       record {
         answers = λ session stands.
-            all-answered (DebuggerStandsFor hash) w old new debugger (says session body) stands
+            all-answered (DebuggerStandsFor hash) w old new debugger
+            (record { session = session; packets = body ∷ []; connection = connection }) stands
             (one-put w old new body takes last);
         same_run = refl;
       }
 
   -- or a prefix of it
-  pub half-said : (old new : PacketSink W) (debugger : Debugger D) (body : List ℕ)
-      (result : Result Connection AnswerFault)
+  pub half-given : {old new : PacketSink W} {debugger : Debugger D} (body : List ℕ)
+      (connection : Connection) {result : Result Connection AnswerFault}
       → IsErr result → TakesPrefix w.stands old.sink new.sink (packet_of body)
-      → Gives hash w old new debugger debugger (λ session. says session body) result
-  half-said old new debugger body result is prefix =
+      → Gives hash w old new debugger debugger
+      (λ session. record { session = session; packets = body ∷ []; connection = connection })
+      result
+  half-given {old} {new} {debugger} body connection {result} is prefix =
       record {
         answers = λ session stands.
-            half-answered (DebuggerStandsFor hash) w old new debugger (says session body)
-            result is (half-put w old new body prefix);
+            half-answered (DebuggerStandsFor hash) w old new debugger
+            (record { session = session; packets = body ∷ []; connection = connection }) result is
+            (half-put w old new body prefix);
         same_run = refl;
       }
 
@@ -215,41 +222,17 @@ module _ {D W : Type 0} (hash : Hash D) (w : SinkGhosts W) where
       }
 
   -- an answer that nothing interrupts
-  pub uninterrupted : (left : Option ℕ) (old new : PacketSink W) (before after : Debugger D)
-      (answer : Session → Answer Session) (result : Result Connection AnswerFault)
+  pub uninterrupted : {left : Option ℕ} {old new : PacketSink W} {before after : Debugger D}
+      {answer : Session → Answer Session} {result : Result Connection AnswerFault}
       → Gives hash w old new before after answer result
       → MayGive hash w left left old new before after (λ interrupt. answer) result
-  uninterrupted left old new before after answer result gives =
+  uninterrupted {left} gives =
       record {
         answers = λ session stands. (None, none-came left, gives.answers session stands);
         same_run = gives.same_run;
       }
 
-  -- the connection is closed behind a packet, and without one
-  pub closed-behind : (old new : PacketSink W) (debugger : Debugger D) (body : List ℕ)
-      → Takes w.stands old.sink new.sink (packet_of body) → new.last ≡ packet_of body
-      → Gives hash w old new debugger debugger (λ session. closes session (body ∷ []))
-      (Ok Closed)
-  closed-behind old new debugger body takes last =
-      record {
-        answers = λ session stands.
-            all-answered (DebuggerStandsFor hash) w old new debugger
-            (closes session (body ∷ [])) stands (one-put w old new body takes last);
-        same_run = refl;
-      }
-
-  pub half-closed : (old new : PacketSink W) (debugger : Debugger D) (body : List ℕ)
-      (result : Result Connection AnswerFault)
-      → IsErr result → TakesPrefix w.stands old.sink new.sink (packet_of body)
-      → Gives hash w old new debugger debugger (λ session. closes session (body ∷ [])) result
-  half-closed old new debugger body result is prefix =
-      record {
-        answers = λ session stands.
-            half-answered (DebuggerStandsFor hash) w old new debugger
-            (closes session (body ∷ [])) result is (half-put w old new body prefix);
-        same_run = refl;
-      }
-
+  -- the connection is closed without a packet
   pub closed-silently : (same : PacketSink W) (debugger : Debugger D)
       → Gives hash w same same debugger debugger (λ session. closes session []) (Ok Closed)
   closed-silently same debugger =

@@ -1,11 +1,11 @@
 -- What a debugger answers from another place, and behind lines that it told.
-use Rattle.std.{proofs.Common.{◌≡◌, ◌≤◌, ◌-◌, ◌∙◌, ℕ, List, [], Option, Some, Result, Ok, Err, IsErr, refl, ap, sym, subst, arith}, specs.Prelude.codes}
+use Rattle.std.{proofs.Common.{◌≡◌, ◌≤◌, ◌∙◌, ℕ, [], List, Option, Some, Result, Ok, Err, IsErr, refl, ap, sym, subst, arith}, specs.Prelude.codes}
 use Rattle.hmac_core.specs.Hash.{Hash}
-use Rattle.outside_edge.specs.declared.sink.Sink.{Ghosts as SinkGhosts}
-use Rattle.debug_link.specs.{Console.console, Conversation.{HaveCome, count_of}, Writing.{Answers, PacketSink, PutsPackets}, declared.{answer_fault.AnswerFault.AnswerFault, connection.Connection.Connection}}
-use Rattle.debug_session.{specs.{Request.most_steps, declared.{command.{Going.Going, Way.{Way, TheVariants.{Ahead, Back}}}, request.Request.{Request, TheVariants.Until}, stop.Stop.Stop}, Cause.{Step, cause}, Going.{Standing, first_stop, interrupted, last_stop, step_of, where_to}, Monitor.request_text, Place.{Run, sight_at, view_of}, Session.{Session, after_request, lines_to, answer_to_request, says, stands_at}, StopReply.stop_reply, Stops.Stops}, proofs.Views.view-at}
+use Rattle.outside_edge.specs.{Sink.TakesPrefix, declared.sink.Sink.Ghosts as SinkGhosts}
+use Rattle.debug_link.specs.{Console.console, Conversation.{HaveCome, count_of}, Packet.packets_of, Writing.{Answers, HasPut, PacketSink, PutsPackets}, declared.{answer_fault.AnswerFault.AnswerFault, connection.Connection.Connection}}
+use Rattle.debug_session.{specs.{Request.most_steps, declared.{command.{Going.Going, Way.Way}, request.Request.{Request, TheVariants.Until}, stop.Stop.Stop}, Cause.{Step, cause}, Going.{Standing, interrupted, last_of, step_of, stop_on, where_to}, Monitor.request_text, Place.{Run, sight_at, view_of}, Session.{Session, after_request, answer_to_request, goes, lines_to, says, stands_at}, StopReply.stop_reply, Stops.Stops}, proofs.Views.view-at}
 use Rattle.debug_walk.specs.{Copies.{TrackStandsFor, played_run}, Walk.{OfWalk, Walks, place_of}, declared.{track.Track.Track, walk.Walk.Walk}}
-use Rattle.device_debug.{specs.{Ahead.{seek_ahead, seek_back}, Going.{GoesOn, HasArrived, StandsAt}, Session.{DebuggerStandsFor, Gives, MayGive, run_at, view_in}, declared.debugger.Debugger.Debugger}, proofs.Answering.{answered-behind, failed-before, halted-here}}
+use Rattle.device_debug.{specs.{Going.{HasArrived, StandsAt}, Session.{DebuggerStandsFor, Gives, MayGive, run_at, view_in}, declared.debugger.Debugger.Debugger}, proofs.Answering.{answered-behind, failed-before, halted-here}}
 
 -- no request changes the place
 place-kept : (session : Session) (request : Request)
@@ -46,177 +46,119 @@ module _ {D W : Type 0} (hash : Hash D) (w : SinkGhosts W) where
       → debugger.stops ≡ session.stops
       → Answers (DebuggerStandsFor hash) w old new after (stands_at session now []) result
 
-  -- where it goes to, by an interrupt, the stops and the place before
-  abbrev pub To : Type 0
-  To = Option ℕ → Stops → ℕ → Standing
+  -- a device that leaves the place of its session, with this track and these stops, for a step
+  pub record Leaves (debugger : Debugger D) (halted : Walk D) (track : Track D) (stops : Stops)
+      (step : Option Step) (going : Going) : Type 0 where
+    pub is : debugger.halted ≡ Some halted
+    pub track_is : track ≡ debugger.track
+    pub stops_is : stops ≡ debugger.stops
+    pub step_is : OfWalk hash halted (λ run place.
+        step ≡ step_of going (sight_at run place).level)
 
-  -- a track that stays one of its run
-  abbrev pub StaysTrack : Debugger D → Debugger D → Type 0
-  StaysTrack old new =
-      TrackStandsFor hash old.track (run_at hash old)
-      → TrackStandsFor hash new.track (run_at hash old)
-
-  module _ (left left_new : Option ℕ) (debugger mid after : Debugger D) (halted : Walk D) (to : To)
-      (is : debugger.halted ≡ Some halted)
-      (same_run : mid.track.run ≡ debugger.track.run) (same_stops : mid.stops ≡ debugger.stops)
-      (stays : (session : Session) → DebuggerStandsFor hash debugger session
-      → TrackStandsFor hash mid.track (run_at hash debugger))
-      (after_run : after.track.run ≡ mid.track.run)
-    where
-      abbrev run : Run
-      run = run_at hash debugger
-
-      stands-there : (old new : PacketSink W) (end : Walk D) (stop : Stop)
-          (result : Result Connection AnswerFault) (session : Session) (now : Standing)
-          → DebuggerStandsFor hash debugger session
-          → StandsThere old new mid after end stop result
-          → HasArrived hash run now end stop
-          → Answers (DebuggerStandsFor hash) w old new after (stands_at session now []) result
-      stands-there old new end stop result session now here there arrived =
-          let same : run ≡ run_at hash mid = ap (played_run hash) (sym same_run) in
-          there now session (subst (λ (one : Run). HasArrived hash one now end stop) same arrived)
-          (subst (TrackStandsFor hash mid.track) same (stays session here))
-          (same_stops ∙ here.stops)
-
-      -- it went on
-      pub went-on : (old between new : PacketSink W) (end : Walk D) (stop : Stop)
-          (result : Result Connection AnswerFault)
-          → ((session : Session) → DebuggerStandsFor hash debugger session
-          → (interrupt : Option ℕ) × HaveCome (count_of interrupt) left left_new
-          × GoesOn hash w old between run session.place
-          (to interrupt debugger.stops session.place) (Ok (end, stop)))
-          → StandsThere between new mid after end stop result
-          → MayGive hash w left left_new old new debugger after
-          (λ interrupt session. stands_at session (to interrupt session.stops session.place)
-          (lines_to (view_of run) Ahead session.place
-          (to interrupt session.stops session.place))) result
-      went-on old between new end stop result goes there =
-          record {
-            answers = λ session here.
-                let way = goes session here in
-                let now : Standing = to way.0 debugger.stops session.place in (
-                  way.0,
-                  way.1,
-                  rw here.stops at (answered-behind (DebuggerStandsFor hash) w old between new
-                      after (stands_at session now [])
-                      (lines_to (view_of run) Ahead session.place now) result way.2.put
-                      (stands-there between new end stop result session now here there
-                      way.2.arrived)),
-                );
-            same_run = after_run ∙ same_run;
-          }
-
-      -- it went back
-      pub went-back : (old new : PacketSink W) (end : Walk D) (stop : Stop)
-          (result : Result Connection AnswerFault)
-          → ((session : Session) → DebuggerStandsFor hash debugger session
-          → (interrupt : Option ℕ) × HaveCome (count_of interrupt) left left_new
-          × HasArrived hash run (to interrupt debugger.stops session.place) end stop)
-          → StandsThere old new mid after end stop result
-          → MayGive hash w left left_new old new debugger after
-          (λ interrupt session. stands_at session (to interrupt session.stops session.place) [])
-          result
-      went-back old new end stop result goes there =
-          record {
-            answers = λ session here.
-                let way = goes session here in (
-                  way.0,
-                  way.1,
-                  rw here.stops at (stands-there old new end stop result session
-                      (to way.0 debugger.stops session.place) here there way.2),
-                );
-            same_run = after_run ∙ same_run;
-          }
-
-  -- it failed on its way
-  pub failed-on : (left left_new : Option ℕ) (old new : PacketSink W) (debugger after : Debugger D)
-      (to : To)
-      (fault : AnswerFault) (result : Result Connection AnswerFault)
-      → IsErr result
-      → ((session : Session) → DebuggerStandsFor hash debugger session
+  -- what holds of its way, wherever it stands: where it ends, with an interrupt or none
+  abbrev pub Goes : Option ℕ → Option ℕ → Walk D → Track D → Stops → Option Step → Way
+      → (Run → ℕ → Standing → Type 0) → Type 0
+  Goes left left_new halted track stops step way holds =
+      (run : Run) (place : ℕ) → TrackStandsFor hash track run → StandsAt hash run place halted
       → (interrupt : Option ℕ) × HaveCome (count_of interrupt) left left_new
-      × GoesOn hash w old new (run_at hash debugger) session.place
-      (to interrupt debugger.stops session.place) (Err fault))
-      → after.track.run ≡ debugger.track.run
-      → MayGive hash w left left_new old new debugger after
-      (λ interrupt session. stands_at session (to interrupt session.stops session.place)
-      (lines_to (view_in hash debugger) Ahead session.place
-      (to interrupt session.stops session.place)))
-      result
-  failed-on left left_new old new debugger after to fault result failed goes run_is =
-      record {
-        answers = λ session here.
-            let way = goes session here in
-            let now : Standing = to way.0 debugger.stops session.place in (
-              way.0,
-              way.1,
-              rw here.stops at (failed-before (DebuggerStandsFor hash) w old new after
-                  (stands_at session now [])
-                  (lines_to (view_in hash debugger) Ahead session.place now) result failed
-                  way.2.prefix),
-            );
-        same_run = run_is;
-      }
+      × holds run place
+      (interrupted (view_of run) place interrupt
+      (stop_on way
+      (cause (view_of run) stops (record { way = way; last = last_of way place; step = step }))
+      place))
 
-  -- a device that goes from where its session stands
-  module _ (debugger : Debugger D) (halted : Walk D) (track : Track D) (stops : Stops)
-      (step : Option Step) (going : Going) (level : ℕ)
-      (is : debugger.halted ≡ Some halted) (track_is : track ≡ debugger.track)
-      (stops_is : stops ≡ debugger.stops) (step_is : step ≡ step_of going level)
-      (level_is : OfWalk hash halted (λ run place. level ≡ (sight_at run place).level))
-      (session : Session) (stands : DebuggerStandsFor hash debugger session)
+  -- where it goes to from there
+  abbrev pub aim : Debugger D → Way → Going → Option ℕ → Session → Standing
+  aim debugger way going interrupt session =
+      interrupted (view_in hash debugger) session.place interrupt
+      (where_to (view_in hash debugger) session.stops way going session.place)
+
+  abbrev pub MayGo : Option ℕ → Option ℕ → PacketSink W → PacketSink W → Debugger D → Debugger D
+      → Way → Going → Result Connection AnswerFault → Type 0
+  MayGo left left_new old new debugger after way going result =
+      MayGive hash w left left_new old new debugger after
+      (λ interrupt session. goes (view_in hash debugger) interrupt session way going) result
+
+  module _ {left left_new : Option ℕ} {debugger : Debugger D} {halted : Walk D} {track : Track D}
+      {stops : Stops} {step : Option Step} {going : Going}
+      (leaves : Leaves debugger halted track stops step going) (way : Way)
     where
-      abbrev here-run : Run
-      here-run = run_at hash debugger
+      -- so it holds where its session stands
+      way-of : (session : Session) → DebuggerStandsFor hash debugger session
+          → (holds : Run → ℕ → Standing → Type 0)
+          → Goes left left_new halted track stops step way holds
+          → (interrupt : Option ℕ) × HaveCome (count_of interrupt) left left_new
+          × holds (run_at hash debugger) session.place (aim debugger way going interrupt session)
+      way-of session stands holds goes =
+          let run : Run = run_at hash debugger in
+          let here : StandsAt hash run session.place halted =
+          halted-here hash debugger session halted leaves.is stands in
+          let same : step ≡ step_of going (view_of run session.place).level =
+          rw (view-at run session.place here.within, ← here.place_is)
+          (leaves.step_is run here.walks) in
+          rw (leaves.stops_is ∙ stands.stops, same) at
+          (goes run session.place (rw leaves.track_is stands.track) here)
 
-      here : StandsAt hash here-run session.place halted
-      here = halted-here hash debugger session halted is stands
-
-      track-here : TrackStandsFor hash track here-run
-      track-here = rw track_is stands.track
-
-      same-step : step ≡ step_of going (view_of here-run session.place).level
-      same-step =
-          rw (view-at here-run session.place here.within, ← here.place_is)
-          (step_is ∙ ap (step_of going) (level_is here-run here.walks))
-
-      pub stays-as : (new : Track D)
+      -- it arrived, and the lines of its way were put
+      pub went : (mid : Debugger D) {after : Debugger D} {old between new : PacketSink W}
+          {end : Walk D} {stop : Stop} {result : Result Connection AnswerFault}
+          → mid.stops ≡ stops → mid.track.run ≡ track.run → after.track.run ≡ mid.track.run
           → ((run : Run) → TrackStandsFor hash track run → Walks hash run halted
-          → TrackStandsFor hash new run)
-          → TrackStandsFor hash new here-run
-      stays-as new stays = stays here-run track-here here.walks
+          → TrackStandsFor hash mid.track run)
+          → Goes left left_new halted track stops step way (λ run place now.
+          HasArrived hash run now end stop
+          × HasPut w old between (lines_to (view_of run) way place now))
+          → StandsThere between new mid after end stop result
+          → MayGo left left_new old new debugger after way going result
+      went mid {after} {old} {between} {new} {end} {stop} {result} stops_are same_run after_run
+          stays on there =
+          let run : Run = run_at hash debugger in
+          let from : mid.track.run ≡ debugger.track.run =
+          same_run ∙ ap (λ (one : Track D). one.run) leaves.track_is in
+          let same : run ≡ run_at hash mid = ap (played_run hash) (sym from) in
+          record {
+            answers = λ session stands.
+                let one = way-of session stands (λ run place now. HasArrived hash run now end stop
+                × HasPut w old between (lines_to (view_of run) way place now)) on in
+                let now : Standing = aim debugger way going one.0 session in
+                let walks : Walks hash run halted =
+                (halted-here hash debugger session halted leaves.is stands).walks in (
+                  one.0,
+                  one.1,
+                  answered-behind (DebuggerStandsFor hash) w old between new after
+                      (stands_at session now [])
+                      (lines_to (view_of run) way session.place now) result one.2.1
+                      (there now session
+                      (subst (λ (one : Run). HasArrived hash one now end stop) same one.2.0)
+                      (subst (TrackStandsFor hash mid.track) same
+                      (stays run (rw leaves.track_is stands.track) walks))
+                      (stops_are ∙ leaves.stops_is ∙ stands.stops)),
+                );
+            same_run = after_run ∙ from;
+          }
 
-      -- where it goes to from there
-      abbrev pub ends-at : Way → Option ℕ → Standing
-      ends-at way interrupt =
-          interrupted (view_of here-run) session.place interrupt
-          (where_to (view_of here-run) debugger.stops way going session.place)
-
-      pub goes-as : (left left_new : Option ℕ) (old new : PacketSink W)
-          (result : Result (Walk D × Stop) AnswerFault)
-          → ((run : Run) (place : ℕ) → TrackStandsFor hash track run
-          → StandsAt hash run place halted
-          → (interrupt : Option ℕ) × HaveCome (count_of interrupt) left left_new
-          × GoesOn hash w old new run place
-          (interrupted (view_of run) place interrupt
-          (first_stop (cause (view_of run) stops (seek_ahead step)) place (most_steps - place)))
-          result)
-          → (interrupt : Option ℕ) × HaveCome (count_of interrupt) left left_new
-          × GoesOn hash w old new here-run session.place (ends-at Ahead interrupt) result
-      goes-as left left_new old new result goes =
-          rw (stops_is, same-step) at (goes here-run session.place track-here here)
-
-      pub goes-back-as : (left left_new : Option ℕ) (end : Walk D) (stop : Stop)
-          → ((run : Run) (from : ℕ) → TrackStandsFor hash track run
-          → StandsAt hash run from halted
-          → (interrupt : Option ℕ) × HaveCome (count_of interrupt) left left_new
-          × HasArrived hash run
-          (interrupted (view_of run) from interrupt
-          (last_stop (cause (view_of run) stops (seek_back step from)) from)) end stop)
-          → (interrupt : Option ℕ) × HaveCome (count_of interrupt) left left_new
-          × HasArrived hash here-run (ends-at Back interrupt) end stop
-      goes-back-as left left_new end stop goes =
-          rw (stops_is, same-step) at (goes here-run session.place track-here here)
+      -- it failed on its way
+      pub failed-on : {after : Debugger D} {old new : PacketSink W}
+          {result : Result Connection AnswerFault}
+          → IsErr result → after.track.run ≡ track.run
+          → Goes left left_new halted track stops step way (λ run place now.
+          TakesPrefix w.stands old.sink new.sink
+          (packets_of (lines_to (view_of run) way place now)))
+          → MayGo left left_new old new debugger after way going result
+      failed-on {after} {old} {new} {result} failed same_run on =
+          record {
+            answers = λ session stands.
+                let one = way-of session stands (λ run place now.
+                TakesPrefix w.stands old.sink new.sink
+                (packets_of (lines_to (view_of run) way place now))) on in
+                let now : Standing = aim debugger way going one.0 session in (
+                  one.0,
+                  one.1,
+                  failed-before (DebuggerStandsFor hash) w old new after (stands_at session now [])
+                      (lines_to (view_in hash debugger) way session.place now) result failed one.2,
+                );
+            same_run = same_run ∙ ap (λ (one : Track D). one.run) leaves.track_is;
+          }
 
   -- it told what a user asked for, after the request was kept
   abbrev pub TellsRequest : {V : Type 0} → PacketSink W → PacketSink W → Debugger D → Walk D

@@ -69,9 +69,8 @@ returns-then-ends_way-clause-goes_on g c = λ run place track stands.
       Some (place_of at.walk),
       found-one _ _ _ (c.ends_way.ensures.found c.if-ends_way.true)
           (c.ends_way.ensures.came _ at.invariant.came),
-      rw same at (going-interrupted g.D.Digest32.hash g.W.Sink run c.args.stops.now
-          (step_in c.args.seek.now) c.place-from.result c.args.packets.now at.packets at.walk
-          at.waiting going (c.ends_way.ensures.boundary run going.walks c.if-ends_way.true)),
+      rw same at (going-interrupted _ _ _ _ _ _ _ _ _ _ going
+          (c.ends_way.ensures.boundary run going.walks c.if-ends_way.true)),
     )
 
 pub returns-then-ends_way-clause-stays : goal.returns-then-ends_way-clause-stays
@@ -89,10 +88,8 @@ returns-in_err-stopped-clause-goes_on g c = λ run place track stands.
     let found = refused_at (view_of run) c.place-from.result (step_before next) in (
       None,
       some-came _ _ _ (c.ends_way.ensures.came _ at.invariant.came),
-      rw same at (before-fails g.D.Digest32.hash g.W.Sink run c.args.stops.now
-          (step_in c.args.seek.now) c.place-from.result c.args.packets.now at.packets next
-          at.waiting row.passed c.stop_before.new.packets found c.in_err-stopped.field-0.0
-          c.from_residual.result refl c.from_residual.ensures.0
+      rw same at (before-fails _ _ _ _ _ _ _ _ _ _ row.passed _ found
+          c.in_err-stopped.field-0.0 _ refl c.from_residual.ensures.0
           (c.in_err-stopped.ensures.stops run row.left row.walks)),
     )
 
@@ -111,9 +108,7 @@ returns-in-Some-clause-goes_on g c = λ run place track stands.
     let found = refused_at (view_of run) c.place-from.result (step_before next) in (
       None,
       some-came _ _ _ (c.ends_way.ensures.came _ at.invariant.came),
-      rw same at (before-stops g.D.Digest32.hash g.W.Sink run c.args.stops.now
-          (step_in c.args.seek.now) c.place-from.result c.args.packets.now at.packets next
-          at.waiting row.passed c.stop_before.new.packets found c.in-Some.stopped refl
+      rw same at (before-stops _ _ _ _ _ _ _ _ _ _ row.passed _ found c.in-Some.stopped refl
           (rw c.in-Some.is at (c.in_ok-stopped.ensures.stops run row.left row.walks))),
     )
 
@@ -129,17 +124,12 @@ returns-in_err-tell_step-clause-goes_on g c = λ run place track stands.
     let row =
     row-of g (goal.at.returns-in_err-tell_step-clause-goes_on g c).After-stop_before
     run track (rw same stands) in
-    let none = before-none g.D.Digest32.hash g.W.Sink run c.args.stops.now
-    (step_in c.args.seek.now) c.place-from.result c.args.packets.now at.packets next at.waiting
-    row.passed c.stop_before.new.packets
+    let none = before-none _ _ _ _ _ _ _ _ _ _ row.passed c.stop_before.new.packets
     (refused_at (view_of run) c.place-from.result (step_before next))
     (rw c.in_default.is at (c.in_ok-stopped.ensures.stops run row.left row.walks)) in (
       None,
       some-came _ _ _ (c.ends_way.ensures.came _ at.invariant.came),
-      rw same at (tell-failed g.D.Digest32.hash g.W.Sink run c.args.stops.now
-          (step_in c.args.seek.now) c.place-from.result c.args.packets.now at.packets next
-          at.waiting row.passed none.0 c.tell_step.new.packets c.tell_step.new.self
-          c.in_err-tell_step.field-0.0 c.from_residual-in_err-tell_step.result
+      rw same at (tell-failed _ _ _ _ _ _ _ _ _ _ row.passed none.0 _ _ _ _
           c.from_residual-in_err-tell_step.ensures.0
           (rw none.1 at (c.in_err-tell_step.ensures.tells run row.walks))),
     )
@@ -156,21 +146,15 @@ returns-in-Some-cause_here-clause-goes_on g c = λ run place track stands.
     let row =
     row-of g (goal.at.returns-in-Some-cause_here-clause-goes_on g c).After-stop_before
     run track (rw same stands) in
-    let none = before-none g.D.Digest32.hash g.W.Sink run c.args.stops.now
-    (step_in c.args.seek.now) c.place-from.result c.args.packets.now at.packets next at.waiting
-    row.passed c.stop_before.new.packets
+    let none = before-none _ _ _ _ _ _ _ _ _ _ row.passed c.stop_before.new.packets
     (refused_at (view_of run) c.place-from.result (step_before next))
     (rw c.in_default.is at (c.in_ok-stopped.ensures.stops run row.left row.walks)) in
-    let is = cause-is g.D.Digest32.hash g.W.Sink run c.args.stops.now (step_in c.args.seek.now)
-    c.place-from.result c.args.packets.now at.packets next at.waiting row.passed
-    (Some c.in-Some-cause_here.stop)
+    let is = cause-is _ _ _ _ _ _ _ _ _ _ row.passed (Some c.in-Some-cause_here.stop)
     (c.in-Some-cause_here.ensures run row.walks row.passed.tells) in (
       None,
       some-came _ _ _ (c.ends_way.ensures.came _ at.invariant.came),
-      rw same at (stops-there g.D.Digest32.hash g.W.Sink run c.args.stops.now
-          (step_in c.args.seek.now) c.place-from.result c.args.packets.now at.packets next
-          at.waiting row.passed none.0 c.tell_step.new.packets c.tell_step.new.self
-          c.in_ok-tell_step.field-0 (rw none.1 at (c.in_ok-tell_step.ensures.tells run row.walks))
+      rw same at (stops-there _ _ _ _ _ _ _ _ _ _ row.passed none.0 _ _ _
+          (rw none.1 at (c.in_ok-tell_step.ensures.tells run row.walks))
           c.in-Some-cause_here.stop is),
     )
 
@@ -198,18 +182,12 @@ loop-passing-preserved g c =
       going = λ run track here.
           let row =
           row-of g (goal.at.loop-passing-preserved g c).After-stop_before run track here in
-          let none = before-none g.D.Digest32.hash g.W.Sink run c.args.stops.now
-          (step_in c.args.seek.now) c.place-from.result c.args.packets.now at.packets next
-          at.waiting row.passed c.stop_before.new.packets
+          let none = before-none _ _ _ _ _ _ _ _ _ _ row.passed c.stop_before.new.packets
           (refused_at (view_of run) c.place-from.result (step_before next))
           (rw c.in_default.is at (c.in_ok-stopped.ensures.stops run row.left row.walks)) in
-          let is = cause-is g.D.Digest32.hash g.W.Sink run c.args.stops.now
-          (step_in c.args.seek.now) c.place-from.result c.args.packets.now at.packets next
-          at.waiting row.passed None
+          let is = cause-is _ _ _ _ _ _ _ _ _ _ row.passed None
           (c.in_default-cause_here.ensures run row.walks row.passed.tells) in
-          goes-on g.D.Digest32.hash g.W.Sink run c.args.stops.now (step_in c.args.seek.now)
-          c.place-from.result c.args.packets.now at.packets next at.waiting row.passed none.0
-          c.tell_step.new.packets c.tell_step.new.self c.in_ok-tell_step.field-0
+          goes-on _ _ _ _ _ _ _ _ _ _ row.passed none.0 _ _ _
           (rw none.1 at (c.in_ok-tell_step.ensures.tells run row.walks)) is;
       came = c.ends_way.ensures.came _ at.invariant.came;
     }
@@ -220,12 +198,11 @@ returns-in_err-tell-clause-goes_on g c = λ run place track stands.
     let same : c.place-from.result ≡ place = c.place-from.ensures ∙ stands.place_is in (
       None,
       some-came _ _ _ at.invariant.came,
-      rw same at (end-fails g.D.Digest32.hash g.W.Sink run c.args.stops.now
-          (step_in c.args.seek.now) c.place-from.result c.args.packets.now at.packets at.walk
-          at.waiting (at.invariant.going run track (rw same stands))
-          (omega (arith, c.loop-passing-test.false, c.place.ensures)) c.tell.new.packets
-          c.in_err-tell.field-0.0 c.from_residual-in_err-tell.result
-          c.from_residual-in_err-tell.ensures.0 c.in_err-tell.ensures.tells),
+      rw same at (end-fails _ _ _ _ _ _ _ _ _ _
+          (at.invariant.going run track (rw same stands))
+          (omega (arith, c.loop-passing-test.false, c.place.ensures)) _
+          c.in_err-tell.field-0.0 _ c.from_residual-in_err-tell.ensures.0
+          c.in_err-tell.ensures.tells),
     )
 
 pub returns-clause-goes_on : goal.returns-clause-goes_on
@@ -234,9 +211,8 @@ returns-clause-goes_on g c = λ run place track stands.
     let same : c.place-from.result ≡ place = c.place-from.ensures ∙ stands.place_is in (
       None,
       some-came _ _ _ at.invariant.came,
-      rw same at (going-ends g.D.Digest32.hash g.W.Sink run c.args.stops.now
-          (step_in c.args.seek.now) c.place-from.result c.args.packets.now at.packets at.walk
-          at.waiting (at.invariant.going run track (rw same stands))
-          (omega (arith, c.loop-passing-test.false, c.place.ensures)) c.tell.new.packets
-          c.in_ok-tell.field-0 c.in_ok-tell.ensures.tells),
+      rw same at (going-ends _ _ _ _ _ _ _ _ _ _
+          (at.invariant.going run track (rw same stands))
+          (omega (arith, c.loop-passing-test.false, c.place.ensures)) _ _
+          c.in_ok-tell.ensures.tells),
     )

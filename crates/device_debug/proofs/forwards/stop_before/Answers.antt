@@ -1,4 +1,4 @@
-use Rattle.std.proofs.Common.{◌<◌, ◌-◌, ◌+◌, ◌∙◌, ◌++◌, ℕ, Ok, Err, codes, ap, subst, sym, arith}
+use Rattle.std.proofs.Common.{◌<◌, ◌-◌, ◌∙◌, ◌++◌, ℕ, Ok, Err, codes, ap, subst, sym, arith}
 use Rattle.printed_lines.specs.Line.{reset_line}
 use Rattle.debug_session.specs.Request.{most_steps}
 use Rattle.debug_link.specs.{Console.console, Writing.PutsPackets, declared.answer_fault.AnswerFault.AnswerFault}

@@ -1,11 +1,41 @@
-use Rattle.std.proofs.Common.{◌≡◌, ◌∙◌, ◌-◌, ◌+◌, ◌++◌, ◌<◌, ℕ, List, suc, ap, subst, sym, arith}
+use Rattle.std.proofs.Common.{◌≡◌, ◌∙◌, ◌-◌, ◌++◌, ◌<◌, ℕ, List, suc, ap, subst, sym, arith}
 use Rattle.debug_session.{specs.{Request.most_steps, Monitor.texts_from, Place.{Run, step_sight, view_of}}, proofs.Views.next-at}
 use Rattle.device_core.specs.Device.{LiveStandsFor}
 use Rattle.device_trace.specs.Trace.{play_of}
 use Rattle.debug_link.proofs.{AddedText.{PutsPrefix, adds_failed, prefix_none}, Faults.{counts_memory, counts_passed, counts_unwritten}}
-use Rattle.debug_walk.specs.{Copies.played_run, Walk.{place_of, second_flag}}
-use Rattle.device_debug.{specs.Telling.text_in, proofs.AddedSteps.{all_added, no_step_added, one_step_added, step_failed}}
+use Rattle.debug_walk.specs.{Copies.played_run, Walk.{Walks, place_of, second_flag}}
+use Rattle.device_debug.{specs.Telling.text_in, proofs.{AddedSteps.{all_added, no_step_added, one_step_added, step_failed}, monitor.add_texts.{Given.Over, Goals.After-as_slice}}}
 use Rattle.device_debug.proofs.monitor.add_texts.Goals as goal
+
+-- one step more, and what there is to tell of it
+record IsStep (g : Over) (c : After-as_slice g) (run : Run) (place : ℕ) : Type 0 where
+  made : place_of c.step-walk.result ≡ suc place
+  below : place < c.args.until
+  walks : Walks g.D.Digest32.hash run c.step-walk.result
+  text : c.as_slice.result.now ≡ text_in c.args.kind (view_of run place).next
+
+step-of : (g : Over) (c : After-as_slice g)
+    → IsStep g c (played_run g.D.Digest32.hash c.args.track.now.run) (place_of c.loop-kind.walk)
+step-of g c =
+    let run : Run = played_run g.D.Digest32.hash c.args.track.now.run in
+    let place : ℕ = place_of c.loop-kind.walk in
+    let made : place_of c.step-walk.result ≡ suc place = omega (arith, c.step-walk.ensures.place) in
+    let before : place < most_steps =
+    omega (arith, c.loop-kind-test.true, c.place.ensures, c.min-end.ensures) in
+    let walks = c.step-walk.ensures.walks run c.loop-kind.invariant.walks in
+    record {
+      made = made;
+      below = omega (arith, c.loop-kind-test.true, c.place.ensures, c.min-end.ensures);
+      walks = walks;
+      text = c.as_slice.ensures
+          ∙ c.in_ok-more.ensures.text run
+          (subst
+          (λ (number : ℕ). LiveStandsFor g.D.Digest32.hash second_flag c.live.result.now run.start
+          (play_of run.events_at number))
+          (made ∙ ap suc (sym c.place-step.ensures)) (rw c.live.ensures walks.stands))
+          ∙ ap (λ (number : ℕ). text_in c.args.kind (step_sight run number)) c.place-step.ensures
+          ∙ ap (text_in c.args.kind) (sym (next-at run place before));
+    }
 
 pub returns-in_err-walk-clause-adds : goal.returns-in_err-walk-clause-adds
 returns-in_err-walk-clause-adds g c = λ order few.
@@ -45,13 +75,8 @@ pub returns-in_err-more-clause-adds : goal.returns-in_err-more-clause-adds
 returns-in_err-more-clause-adds g c = λ order few.
     let run : Run = played_run g.D.Digest32.hash c.args.track.now.run in
     let place : ℕ = place_of c.loop-kind.walk in
-    let next = c.step-walk.result in
-    let made : place_of next ≡ suc place = omega (arith, c.step-walk.ensures.place) in
     let below : place < c.args.until =
     omega (arith, c.loop-kind-test.true, c.place.ensures, c.min-end.ensures) in
-    let before : place < most_steps =
-    omega (arith, c.loop-kind-test.true, c.place.ensures, c.min-end.ensures) in
-    let walks = c.step-walk.ensures.walks run c.loop-kind.invariant.walks in
     step_failed g.W.Sink (view_of run) (text_in c.args.kind) c.args.packets.now c.loop-kind.packets
     c.loop-kind.packets c.args.text.now c.loop-kind.text c.loop-kind.text c.args.from c.args.until
     place c.from_residual-in_err-more.result c.from_residual-in_err-more.ensures.0 below
@@ -73,29 +98,15 @@ pub returns-in_err-add-clause-adds : goal.returns-in_err-add-clause-adds
 returns-in_err-add-clause-adds g c = λ order few.
     let run : Run = played_run g.D.Digest32.hash c.args.track.now.run in
     let place : ℕ = place_of c.loop-kind.walk in
-    let next = c.step-walk.result in
-    let made : place_of next ≡ suc place = omega (arith, c.step-walk.ensures.place) in
-    let below : place < c.args.until =
-    omega (arith, c.loop-kind-test.true, c.place.ensures, c.min-end.ensures) in
-    let before : place < most_steps =
-    omega (arith, c.loop-kind-test.true, c.place.ensures, c.min-end.ensures) in
-    let walks = c.step-walk.ensures.walks run c.loop-kind.invariant.walks in
-    let text : c.as_slice.result.now ≡ text_in c.args.kind (view_of run place).next =
-    c.as_slice.ensures
-    ∙ c.in_ok-more.ensures.text run
-    (subst (λ (number : ℕ). LiveStandsFor g.D.Digest32.hash second_flag c.live.result.now run.start
-    (play_of run.events_at number))
-    (made ∙ ap suc (sym c.place-step.ensures)) (rw c.live.ensures walks.stands))
-    ∙ ap (λ (number : ℕ). text_in c.args.kind (step_sight run number)) c.place-step.ensures
-    ∙ ap (text_in c.args.kind) (sym (next-at run place before)) in
+    let step = step-of g (goal.at.returns-in_err-add-clause-adds g c).After-as_slice in
     step_failed g.W.Sink (view_of run) (text_in c.args.kind) c.args.packets.now c.loop-kind.packets
     c.add.new.packets c.args.text.now c.loop-kind.text c.add.new.self c.args.from c.args.until
-    place c.from_residual-in_err-add.result c.from_residual-in_err-add.ensures.0 below
+    place c.from_residual-in_err-add.result c.from_residual-in_err-add.ensures.0 step.below
     (c.loop-kind.invariant.added order few)
     (subst
     (λ (one : List ℕ). (more : List ℕ)
     → PutsPrefix g.W.Sink c.loop-kind.packets c.add.new.packets (c.loop-kind.text ++ one ++ more))
-    text c.in_err-add.ensures.adds.prefix)
+    step.text c.in_err-add.ensures.adds.prefix)
 
 pub returns-in_err-add-clause-counts : goal.returns-in_err-add-clause-counts
 returns-in_err-add-clause-counts g c =
@@ -107,28 +118,15 @@ pub loop-kind-preserved : goal.loop-kind-preserved
 loop-kind-preserved g c =
     let run : Run = played_run g.D.Digest32.hash c.args.track.now.run in
     let place : ℕ = place_of c.loop-kind.walk in
-    let next = c.step-walk.result in
-    let made : place_of next ≡ suc place = omega (arith, c.step-walk.ensures.place) in
-    let below : place < c.args.until =
-    omega (arith, c.loop-kind-test.true, c.place.ensures, c.min-end.ensures) in
-    let before : place < most_steps =
-    omega (arith, c.loop-kind-test.true, c.place.ensures, c.min-end.ensures) in
-    let walks = c.step-walk.ensures.walks run c.loop-kind.invariant.walks in
-    let text : c.as_slice.result.now ≡ text_in c.args.kind (view_of run place).next =
-    c.as_slice.ensures
-    ∙ c.in_ok-more.ensures.text run
-    (subst (λ (number : ℕ). LiveStandsFor g.D.Digest32.hash second_flag c.live.result.now run.start
-    (play_of run.events_at number))
-    (made ∙ ap suc (sym c.place-step.ensures)) (rw c.live.ensures walks.stands))
-    ∙ ap (λ (number : ℕ). text_in c.args.kind (step_sight run number)) c.place-step.ensures
-    ∙ ap (text_in c.args.kind) (sym (next-at run place before)) in
+    let step = step-of g (goal.at.loop-kind-preserved g c).After-as_slice in
     record {
-      walks = walks;
+      walks = step.walks;
       added = λ order few.
           one_step_added g.W.Sink (view_of run) (text_in c.args.kind) c.args.packets.now
           c.loop-kind.packets c.add.new.packets c.args.text.now c.loop-kind.text c.add.new.self
-          c.as_slice.result.now c.args.from c.args.until place (place_of next) below made text
-          (c.loop-kind.invariant.added order few) c.in_ok-add.ensures.adds.all;
+          c.as_slice.result.now c.args.from c.args.until place (place_of c.step-walk.result)
+          step.below step.made step.text (c.loop-kind.invariant.added order few)
+          c.in_ok-add.ensures.adds.all;
       rises = omega (arith, c.loop-kind.invariant.rises, c.in_ok-add.ensures.counts.counted);
     }
 

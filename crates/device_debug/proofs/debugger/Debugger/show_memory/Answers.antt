@@ -1,6 +1,6 @@
 use Rattle.std.proofs.Common.{sym}
 use Rattle.hex.specs.Hex.{encode_lower}
-use Rattle.device_debug.proofs.{Answering.{half-said, said}, Showing.{memory-said, nothing-shown, secret-refused}}
+use Rattle.device_debug.proofs.{Answering.{half-given, packet-given}, Showing.{memory-said, nothing-shown, secret-refused}}
 use Rattle.device_debug.proofs.debugger.Debugger.show_memory.Goals as goal
 
 pub returns-in_err-put_digits-clause-gives : goal.returns-in_err-put_digits-clause-gives
@@ -9,7 +9,7 @@ returns-in_err-put_digits-clause-gives g c =
     c.deref.result.now c.shown_bytes.result.items c.if-size-eq0.false
     (sym c.if-is_shown.ensures) c.deref.ensures.0 c.in_ok-current_walk.ensures.halted
     c.shown_bytes.ensures
-    (half-said _ _ _ _ c.args.self.now (encode_lower c.deref.result.now) _
+    (half-given _ _ (encode_lower c.deref.result.now) _
     c.from_residual-in_err-put_digits.ensures.0 c.in_err-put_digits.ensures.puts.prefix)
 
 pub returns-then-size-eq0-clause-gives : goal.returns-then-size-eq0-clause-gives
@@ -23,7 +23,7 @@ returns-in_ok-put_digits-clause-gives g c =
     c.deref.result.now c.shown_bytes.result.items c.if-size-eq0.false
     (sym c.if-is_shown.ensures) c.deref.ensures.0 c.in_ok-current_walk.ensures.halted
     c.shown_bytes.ensures
-    (said _ _ _ _ c.args.self.now (encode_lower c.deref.result.now)
+    (packet-given _ _ (encode_lower c.deref.result.now) _
     c.in_ok-put_digits.ensures.puts.all c.put_digits.ensures.last)
 
 pub returns-else-is_shown-clause-gives : goal.returns-else-is_shown-clause-gives
