@@ -1,8 +1,7 @@
 -- A device's last entry through its lines: where it is at home stays, and does not matter.
 use Rattle.std.{proofs.{Common.{◌≡◌, ◌∙◌, ℕ, List, [], ◌∷◌, ◌++◌, Option, Some, None, refl, sym, ap, inl, inr, append_assoc}, lemmas.Bool.cases_Bool}, specs.{Prelude.{if◌then◌else◌, option_map}, Str.bytes_eq}}
-use Rattle.report_text.specs.ReportFile.{report2_of}
-use Rattle.desk_memory.specs.{declared.device_state.DeviceState.DeviceState, DeviceState.{is_new, new_device, under_new_key}, Entry.{Entry, Note, home_of, state_under}}
-use Rattle.verifier_desk.{specs.{DeviceReply.{answer_after, state_after}, Judged.{JudgedLine, entry_after, entry_through, is_new_to, mark_of, state_before}, Law.{KeyCounter, accepted_counters, accepted_counter, counter_of, requested_counters, under_mark}}, proofs.Remembered.entry_through-append}
+use Rattle.desk_memory.specs.{declared.{answer.Answer.Answer, device_state.DeviceState.DeviceState}, DeviceState.{is_new, new_device, under_new_key}, Entry.{Entry, Note, home_of, state_under}}
+use Rattle.verifier_desk.{specs.{DeviceReply.{answer_after, state_after}, Judged.{JudgedLine, entry_after, entry_through, is_new_to, mark_of, state_before}, Law.{KeyCounter, line_counters, under_mark}}, proofs.Remembered.entry_through-append}
 use Rattle.many_desks.specs.Law.{SayAlike, note_of}
 
 home_after : (name : List ℕ) (entry : Option Entry) (now : JudgedLine)
@@ -91,66 +90,37 @@ alike_through name one other (now ∷ earlier) same =
     alike_after name now (entry_through name one earlier) (entry_through name other earlier)
     (alike_through name one other earlier same)
 
--- and so which counters are requested and accepted
-requested_now : JudgedLine → DeviceState → List KeyCounter
-requested_now now state =
+-- and so which counters are told
+counters_now : (JudgedLine → Answer → List ℕ) → JudgedLine → DeviceState → List KeyCounter
+counters_now counters now state =
     if is_new now.line.number state.last
-    then under_mark (mark_of now) (counter_of (answer_after now.judge state now.line))
+    then under_mark (mark_of now) (counters now (answer_after now.judge state now.line))
     else []
 
-accepted_now : JudgedLine → DeviceState → List KeyCounter
-accepted_now now state =
-    if is_new now.line.number state.last
-    then under_mark (mark_of now)
-    (accepted_counter (answer_after now.judge state now.line) (report2_of now.line.words))
-    else []
-
-pub requested_alike : (name : List ℕ) (one other : Option Entry) (lines : List JudgedLine)
-    → SayAlike one other → requested_counters name one lines ≡ requested_counters name other lines
-unfolding requested_now
-requested_alike name one other [] same = refl
-requested_alike name one other (now ∷ earlier) same = λ i.
-    requested_now now (alike_state (mark_of now) (entry_through name one earlier)
+pub counters_alike : (counters : JudgedLine → Answer → List ℕ) (name : List ℕ)
+    (one other : Option Entry) (lines : List JudgedLine)
+    → SayAlike one other
+    → line_counters counters name one lines ≡ line_counters counters name other lines
+unfolding counters_now
+counters_alike counters name one other [] same = refl
+counters_alike counters name one other (now ∷ earlier) same = λ i.
+    counters_now counters now (alike_state (mark_of now) (entry_through name one earlier)
     (entry_through name other earlier) (alike_through name one other earlier same) i)
-    ++ requested_alike name one other earlier same i
+    ++ counters_alike counters name one other earlier same i
 
-pub accepted_alike : (name : List ℕ) (one other : Option Entry) (lines : List JudgedLine)
-    → SayAlike one other → accepted_counters name one lines ≡ accepted_counters name other lines
-unfolding accepted_now
-accepted_alike name one other [] same = refl
-accepted_alike name one other (now ∷ earlier) same = λ i.
-    accepted_now now (alike_state (mark_of now) (entry_through name one earlier)
-    (entry_through name other earlier) (alike_through name one other earlier same) i)
-    ++ accepted_alike name one other earlier same i
-
-pub requested-append : (name : List ℕ) (start : Option Entry) (later earlier : List JudgedLine)
-    → requested_counters name start (later ++ earlier)
-    ≡ requested_counters name (entry_through name start earlier) later
-    ++ requested_counters name start earlier
-unfolding requested_now
-requested-append name start [] earlier = refl
-requested-append name start (now ∷ later) earlier =
-    (λ i. requested_now now
+pub counters-append : (counters : JudgedLine → Answer → List ℕ) (name : List ℕ)
+    (start : Option Entry) (later earlier : List JudgedLine)
+    → line_counters counters name start (later ++ earlier)
+    ≡ line_counters counters name (entry_through name start earlier) later
+    ++ line_counters counters name start earlier
+unfolding counters_now
+counters-append counters name start [] earlier = refl
+counters-append counters name start (now ∷ later) earlier =
+    (λ i. counters_now counters now
     (state_before (entry_through-append name start later earlier i) now)
-    ++ requested-append name start later earlier i)
+    ++ counters-append counters name start later earlier i)
     ∙ sym (append_assoc
-    (requested_now now (state_before (entry_through name (entry_through name start earlier) later)
-    now))
-    (requested_counters name (entry_through name start earlier) later)
-    (requested_counters name start earlier))
-
-pub accepted-append : (name : List ℕ) (start : Option Entry) (later earlier : List JudgedLine)
-    → accepted_counters name start (later ++ earlier)
-    ≡ accepted_counters name (entry_through name start earlier) later
-    ++ accepted_counters name start earlier
-unfolding accepted_now
-accepted-append name start [] earlier = refl
-accepted-append name start (now ∷ later) earlier =
-    (λ i. accepted_now now
-    (state_before (entry_through-append name start later earlier i) now)
-    ++ accepted-append name start later earlier i)
-    ∙ sym (append_assoc
-    (accepted_now now (state_before (entry_through name (entry_through name start earlier) later)
-    now))
-    (accepted_counters name (entry_through name start earlier) later)
-    (accepted_counters name start earlier))
+    (counters_now counters now
+    (state_before (entry_through name (entry_through name start earlier) later) now))
+    (line_counters counters name (entry_through name start earlier) later)
+    (line_counters counters name start earlier))

@@ -1,28 +1,27 @@
 -- Which counters many desks request and accept.
 use Rattle.std.specs.Prelude.{◌<◌, ◌++◌, ℕ, List, [], ◌∷◌, All, Contains}
-use Rattle.desk_memory.specs.Entry.{last_in}
-use Rattle.verifier_desk.specs.Law.{Descends, KeyCounter, StartsSound, accepted_counters, count_in, counters_in, judged_lines, outstanding_in, requested_counters}
+use Rattle.desk_memory.specs.{declared.answer.Answer.Answer, Entry.last_in}
+use Rattle.verifier_desk.specs.{Judged.JudgedLine, Law.{Descends, KeyCounter, StartsSound, count_in, counters_in, judged_lines, line_accept, line_counters, line_request, outstanding_in}}
 use Rattle.many_desks.specs.{Act.{Act, AreAllowed, Serves, World}, Law.StartsAt}
 
--- the counters that all desks requested of the device of a name and accepted from it, each by the
--- entries that it had
-abbrev pub requested_by : Act → List ℕ → List KeyCounter
-requested_by (Serves desk run) name =
-    requested_counters name (last_in run.desk.entries name) (judged_lines run.desk name run.lines)
-requested_by act name = []
+-- such counters of the lines of the device of a name at all desks, each by the entries that it had
+abbrev pub act_counters : (JudgedLine → Answer → List ℕ) → Act → List ℕ → List KeyCounter
+act_counters counters (Serves desk run) name =
+    line_counters counters name (last_in run.desk.entries name)
+    (judged_lines run.desk name run.lines)
+act_counters counters act name = []
 
+abbrev pub counters_among : (JudgedLine → Answer → List ℕ) → List Act → List ℕ → List KeyCounter
+counters_among counters [] name = []
+counters_among counters (act ∷ earlier) name =
+    act_counters counters act name ++ counters_among counters earlier name
+
+-- those that were requested, and those that were accepted
 abbrev pub requested_in : List Act → List ℕ → List KeyCounter
-requested_in [] name = []
-requested_in (act ∷ earlier) name = requested_by act name ++ requested_in earlier name
-
-abbrev pub accepted_by : Act → List ℕ → List KeyCounter
-accepted_by (Serves desk run) name =
-    accepted_counters name (last_in run.desk.entries name) (judged_lines run.desk name run.lines)
-accepted_by act name = []
+requested_in acts name = counters_among line_request acts name
 
 abbrev pub accepted_in : List Act → List ℕ → List KeyCounter
-accepted_in [] name = []
-accepted_in (act ∷ earlier) name = accepted_by act name ++ accepted_in earlier name
+accepted_in acts name = counters_among line_accept acts name
 
 -- no counter is requested twice or accepted twice, none is requested that the start has counted,
 -- and what is accepted was requested under the key that it is accepted under, or was outstanding so

@@ -62,23 +62,28 @@ under_mark mark counters = map (λ counter. record { mark = mark; counter = coun
 abbrev pub counters_in : List KeyCounter → List ℕ
 counters_in told = map (λ (one : KeyCounter). one.counter) told
 
--- of the lines with new numbers, newest first, from a last entry at the start
-abbrev pub requested_counters : List ℕ → Option Entry → List JudgedLine → List KeyCounter
-requested_counters name start [] = []
-requested_counters name start (now ∷ earlier) =
+-- the counter that a line with this answer requests, and the one that it accepts
+abbrev pub line_request : JudgedLine → Answer → List ℕ
+line_request now answer = counter_of answer
+
+abbrev pub line_accept : JudgedLine → Answer → List ℕ
+line_accept now answer = accepted_counter answer (report2_of now.line.words)
+
+-- such counters of the lines with new numbers, newest first, from a last entry at the start
+abbrev pub line_counters : (JudgedLine → Answer → List ℕ) → List ℕ → Option Entry
+    → List JudgedLine → List KeyCounter
+line_counters counters name start [] = []
+line_counters counters name start (now ∷ earlier) =
     let entry = entry_through name start earlier in
-    (if is_new_to entry now then under_mark (mark_of now) (counter_of (answer_to entry now))
+    (if is_new_to entry now then under_mark (mark_of now) (counters now (answer_to entry now))
     else [])
-    ++ requested_counters name start earlier
+    ++ line_counters counters name start earlier
+
+abbrev pub requested_counters : List ℕ → Option Entry → List JudgedLine → List KeyCounter
+requested_counters name start lines = line_counters line_request name start lines
 
 abbrev pub accepted_counters : List ℕ → Option Entry → List JudgedLine → List KeyCounter
-accepted_counters name start [] = []
-accepted_counters name start (now ∷ earlier) =
-    let entry = entry_through name start earlier in
-    (if is_new_to entry now
-    then under_mark (mark_of now)
-    (accepted_counter (answer_to entry now) (report2_of now.line.words)) else [])
-    ++ accepted_counters name start earlier
+accepted_counters name start lines = line_counters line_accept name start lines
 
 -- what is outstanding at the start, which was requested before
 abbrev pub counter_in_state : Option ℕ → List ℕ
