@@ -5,7 +5,7 @@ use Rattle.source_server.{specs.{declared.{halt.Halt.Halt, served.Served.Served}
 use Rattle.debug_link.specs.declared.talk_end.TalkEnd.{TalkEnd}
 use Rattle.device_live.specs.Conversation.{life_promise}
 use Rattle.input_files.{specs.{declared.{status.Status.{Status, TheVariants.{Done, Words, Memory, Spent, ReadFault, WriteFault}}, refusal.Refusal.Refusal}, Reading.{Reaches, Reads, Files, IsRefusal}, Row.{RowOf, Ends}, Status.status_of_refusal}, proofs.Complete.{refused-complete, told-complete, refused-spent, refused-words}}
-use Rattle.debug_cli.specs.{Session.{Debugs, EndsWith, HasServed, Lives, Session, debug_promise, run_with, start_with, IsSessionAnswer}, Status.{status_of, talk_status}}
+use Rattle.debug_cli.specs.{Session.{Debugs, EndsWith, HasServed, Lives, Service, debug_promise, run_with, start_with, IsSessionAnswer}, Status.{status_of, talk_status}}
 use Rattle.play_script.specs.Script.{TimedEvent}
 use Rattle.source_server.specs.declared.halt.Halt.TheVariants as halt
 use Rattle.source_server.specs.declared.served.Served.TheVariants as served
@@ -115,7 +115,7 @@ talk-end talk.Memory = inr refl
 
 module _ {R W : Type 0} (r : SourceGhosts R) (w : SinkGhosts W) (left : Option ℕ)
     (old new : Ports R W) (status : Status) where
-  pub served-words : (session : Session) → HasServed r w left session old new status
+  pub served-words : (service : Service) → HasServed r w left service old new status
       → status ≡ Words → ⊥
   served-words (Debugs run) has =
       ends-words talk_status talk-end r w (debug_promise w run left old.sink) old new
@@ -125,7 +125,7 @@ module _ {R W : Type 0} (r : SourceGhosts R) (w : SinkGhosts W) (left : Option �
       ends-words (λ error. Memory) (λ error. inr refl) r w (life_promise w start old.sink) old new
       (λ before last so. so.1) status has
 
-  pub served-limit : (session : Session) → HasServed r w left session old new status
+  pub served-limit : (service : Service) → HasServed r w left service old new status
       → KeepsLimit r old.source new.source (status ≡ Spent)
   served-limit (Debugs run) has =
       ends-limit talk_status talk-end r w (debug_promise w run left old.sink) old new
@@ -139,8 +139,8 @@ module _ {R W : Type 0} (r : SourceGhosts R) (w : SinkGhosts W) (left : Option �
       ends-limit (λ error. Memory) (λ error. inr refl) r w (life_promise w start old.sink) old new
       (λ before last so. so.1) status has
 
-  pub served-whole : (session : Session) (bytes : List ℕ)
-      → HasServed r w left session old new status
+  pub served-whole : (service : Service) (bytes : List ℕ)
+      → HasServed r w left service old new status
       → r.left old.source ≡ Some bytes → length bytes < most_input
       → ¬ Rose (r.faults old.source) (r.faults new.source)
       → ¬ Rose (w.faults old.sink) (w.faults new.sink)
@@ -153,7 +153,7 @@ module _ {R W : Type 0} (r : SourceGhosts R) (w : SinkGhosts W) (left : Option �
       ends-whole (λ error. Memory) (λ error. inr refl) r w (life_promise w start old.sink) old new
       (λ before last so. so.1) status bytes has
 
-  pub served-fault : (session : Session) → HasServed r w left session old new status
+  pub served-fault : (service : Service) → HasServed r w left service old new status
       → ¬ Rose (r.faults old.source) (r.faults new.source)
       → ¬ Rose (w.faults old.sink) (w.faults new.sink)
       → IsFault status → ⊥
@@ -169,16 +169,16 @@ module _ {R W : Type 0} (r : SourceGhosts R) (w : SinkGhosts W) (left : Option �
 -- Answers: after a refusal of the files, and after their session served its source.
 
 -- the ends of the rows, once their files have values
-abbrev pub debug_end : List ℕ × ((ℕ → Option ℕ) × List TimedEvent) → RowOf Session
+abbrev pub debug_end : List ℕ × ((ℕ → Option ℕ) × List TimedEvent) → RowOf Service
 debug_end values = Ends (Ok (Debugs (run_with values.0 values.1.0 values.1.1)))
 
-abbrev pub live_end : List ℕ × (ℕ → Option ℕ) → RowOf Session
+abbrev pub live_end : List ℕ × (ℕ → Option ℕ) → RowOf Service
 live_end values = Ends (Ok (Lives (start_with values.0 values.1)))
 
 module _ {S R W : Type 0} (s : ShelfGhosts S) (r : SourceGhosts R) (w : SinkGhosts W)
     (shelf shelf_after : S) (left : Option ℕ) where
-  pub refused-answer : {V : Type 0} (ports : Ports R W) (row : RowOf Session)
-      (rest : V → RowOf Session) (refusal : Refusal)
+  pub refused-answer : {V : Type 0} (ports : Ports R W) (row : RowOf Service)
+      (rest : V → RowOf Service) (refusal : Refusal)
       → Reads s.files s.faults s.misses shelf shelf_after row rest (Err refusal)
       → IsSessionAnswer s r w shelf shelf_after left ports ports (Some row)
       (status_of_refusal refusal)
@@ -200,24 +200,24 @@ module _ {S R W : Type 0} (s : ShelfGhosts S) (r : SourceGhosts R) (w : SinkGhos
         sink_counted = omega arith;
       }
 
-  pub served-answer : (old new : Ports R W) (row : RowOf Session) (session : Session)
+  pub served-answer : (old new : Ports R W) (row : RowOf Service) (service : Service)
       (status : Status)
-      → Reaches (s.files shelf) row (Ok session)
+      → Reaches (s.files shelf) row (Ok service)
       → KeepsFiles s.files s.faults s.misses shelf shelf_after
-      → HasServed r w left session old new status
+      → HasServed r w left service old new status
       → r.faults old.source ≤ r.faults new.source
       → w.faults old.sink ≤ w.faults new.sink
       → IsSessionAnswer s r w shelf shelf_after left old new (Some row) status
-  served-answer old new row session status reaches keeps has source_counts sink_counts =
-      let no_words = served-words r w left old new status session has in
+  served-answer old new row service status reaches keeps has source_counts sink_counts =
+      let no_words = served-words r w left old new status service has in
       record {
         words = (λ is. absurd (no_words is), λ none. absurd (cc none));
         unread = λ is. absurd (no_words is);
-        answers = inr (session, reaches, has);
+        answers = inr (service, reaches, has);
         complete = told-complete (s.files shelf) (r.left old.source) _ row _ _
             (λ bytes is few no_source no_sink.
-            served-whole r w left old new status session bytes has is few no_source no_sink);
-        limit = served-limit r w left old new status session has;
+            served-whole r w left old new status service bytes has is few no_source no_sink);
+        limit = served-limit r w left old new status service has;
         kept = keeps;
         source_counted = source_counts;
         sink_counted = sink_counts;
@@ -242,7 +242,7 @@ refused-fault files missed failed row status (inr (inr (inr (bad, is, reaches)))
 
 pub no-fault-of_run : {S R W : Type 0} (s : ShelfGhosts S) (r : SourceGhosts R)
     (w : SinkGhosts W) (shelf shelf_after : S) (left : Option ℕ) (old new : Ports R W)
-    (command : Option (RowOf Session)) (status : Status)
+    (command : Option (RowOf Service)) (status : Status)
     → IsSessionAnswer s r w shelf shelf_after left old new command status
     → ¬ Rose (s.faults shelf) (s.faults shelf_after)
     → ¬ Rose (r.faults old.source) (r.faults new.source)

@@ -32,40 +32,40 @@ abbrev pub first_of : Run → RunSession
 first_of run = record { run = run; session = first_session }
 
 -- what serves a source: a debugger of a run, or a device at power-on
-pub data Session : Type 0 where
-  Debugs : Run → Session
-  Lives : Start → Session
+pub data Service : Type 0 where
+  Debugs : Run → Service
+  Lives : Start → Service
 
 -- the rows that read the files of a command in their order
-abbrev pub debug_row : List ℕ → List ℕ → List ℕ → RowOf Session
+abbrev pub debug_row : List ℕ → List ℕ → List ℕ → RowOf Service
 debug_row image script key =
     read_file key_kind key (λ key.
     read_file image_kind image (λ image.
     read_file script_kind script (λ script. Ends (Ok (Debugs (run_with key image script))))))
 
-abbrev pub live_row : List ℕ → List ℕ → RowOf Session
+abbrev pub live_row : List ℕ → List ℕ → RowOf Service
 live_row image key =
     read_file key_kind key (λ key.
     read_file image_kind image (λ image. Ends (Ok (Lives (start_with key image)))))
 
 -- `debug IMAGE SCRIPT KEY`
-abbrev pub debug_row_of : List (List ℕ) → Option (RowOf Session)
+abbrev pub debug_row_of : List (List ℕ) → Option (RowOf Service)
 debug_row_of (command ∷ image ∷ script ∷ key ∷ []) =
     if bytes_eq command (codes "debug") then Some (debug_row image script key) else None
 debug_row_of arguments = None
 
 -- `live IMAGE KEY`
-abbrev pub live_row_of : List (List ℕ) → Option (RowOf Session)
+abbrev pub live_row_of : List (List ℕ) → Option (RowOf Service)
 live_row_of (command ∷ image ∷ key ∷ []) =
     if bytes_eq command (codes "live") then Some (live_row image key) else None
 live_row_of arguments = None
 
-abbrev pub or_row : Option (RowOf Session) → Option (RowOf Session) → Option (RowOf Session)
+abbrev pub or_row : Option (RowOf Service) → Option (RowOf Service) → Option (RowOf Service)
 or_row None other = other
 or_row (Some row) other = Some row
 
 -- the one or the other
-abbrev pub session_row_of : List (List ℕ) → Option (RowOf Session)
+abbrev pub session_row_of : List (List ℕ) → Option (RowOf Service)
 session_row_of arguments = or_row (debug_row_of arguments) (live_row_of arguments)
 
 -- a source was served under a promise of what is put, and this is the answer to how that ended
@@ -82,7 +82,7 @@ debug_promise w run left first =
 
 -- what was put is the conversation of the bytes that the source gave, with no more interrupts than
 -- come, or a prefix of it; or there was no memory for a device, and nothing was taken or put
-abbrev pub HasServed : {R W : Type 0} → SourceGhosts R → SinkGhosts W → Option ℕ → Session
+abbrev pub HasServed : {R W : Type 0} → SourceGhosts R → SinkGhosts W → Option ℕ → Service
     → Ports R W → Ports R W → Status → Type 0
 HasServed r w left (Debugs run) old new status =
     EndsWith r (debug_promise w run left old.sink) status_of_talk old new status
@@ -93,15 +93,15 @@ HasServed r w left (Lives start) old new status =
 -- an answer to arguments that may spell a command, where it is told how many interrupts come or not
 pub record IsSessionAnswer {S R W : Type 0} (s : ShelfGhosts S) (r : SourceGhosts R)
     (w : SinkGhosts W) (shelf shelf_after : S) (left : Option ℕ) (old new : Ports R W)
-    (command : Option (RowOf Session)) (status : Status) : Type 0 where
+    (command : Option (RowOf Service)) (status : Status) : Type 0 where
   pub words : (status ≡ Words) ↔ (command ≡ None)
   pub unread : status ≡ Words → (shelf_after ≡ shelf) × (new ≡ old)
   -- the files were refused, and nothing was taken or put, or they were read without fault, and what
   -- they give served the source
   pub answers : IfSome command (λ row.
       (IsUnread s shelf shelf_after row status × (new ≡ old))
-      ⊎ ((session : Session) × Reaches (s.files shelf) row (Ok session)
-      × HasServed r w left session old new status))
+      ⊎ ((service : Service) × Reaches (s.files shelf) row (Ok service)
+      × HasServed r w left service old new status))
   -- where files and input are told, no file is refused, the input is not too long, and no fault was
   -- counted, all was answered or memory ran out
   pub complete : IfSome command (λ row. IfSome (s.files shelf) (λ contents.

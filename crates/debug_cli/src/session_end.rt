@@ -4,7 +4,7 @@ use input_files::RowEnd;
 pub struct SessionEnd;
 
 impl RowEnd for SessionEnd {
-    ghost use Rattle.debug_cli.specs.Session.{Session};
+    ghost use Rattle.debug_cli.specs.Session.{Service};
 
-    ghost Outcome = { Session };
+    ghost Outcome = { Service };
 }

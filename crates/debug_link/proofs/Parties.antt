@@ -1,7 +1,7 @@
 -- How those who take part in a serving go on with a conversation, byte after byte.
 use Rattle.std.{proofs.{Common.{◌≡◌, ◌∙◌, ◌++◌, ◌+◌, ◌<◌, ℕ, true, false, List, [], ◌∷◌, Bool, Option, Some, None, Result, Ok, Err, IsErr, refl, ap, sym, subst, ⊎_elim}, lemmas.{Bool.{cases_Bool, false≢true}, List.{append-nil, take_more}}}, specs.Prelude.{is_some, length, nat_lt, slice_index, take}}
 use Rattle.outside_edge.{specs.{Sink.{Takes, TakesPrefix}, declared.sink.Sink.Ghosts as SinkGhosts}, proofs.SinkLemmas.{prefix_after, prefix_of_more, takes_both}}
-use Rattle.debug_link.{specs.{Conversation.{LONGEST_BODY, Answer, HaveCome, Input, Talk, answer_to, talk_after_message, bytes_of, count_of, interrupts_of, mark_of, with_mark, with_answer, talk_with_byte, talk_with_inputs}, HeldBody.{HeldBody, short_body}, Link.{Message, Silence, Again, Damage, Whole, link_after, message_of}, Packet.{packet_of, packets_of}, Reading.{KeepsBody, ReaderStandsFor, heard_of}, Serving.{GoesOnTo, Parties, TalkStandsFor}, Writing.{Answers, PacketSink}, declared.{answer_fault.AnswerFault.AnswerFault, connection.Connection.{Connection, TheVariants.{Open, Closed}}, packet_reader.Heard.Heard}}, proofs.{Interrupts.{came-both, came-one, came-quiet, none-came}, Talks.{answered_more, bytes_both, closed_inputs, inputs_both, inputs_more, open_byte, quiet, quiet_bytes}}}
+use Rattle.debug_link.{specs.{Conversation.{LONGEST_BODY, Answer, HaveCome, Input, Talk, answer_to, talk_after_message, input_bytes, count_of, interrupts_of, mark_of, with_mark, with_answer, talk_with_byte, talk_with_inputs}, HeldBody.{HeldBody, short_body}, Link.{Message, Silence, Again, Damage, Whole, link_after, message_of}, Packet.{packet_of, packets_of}, Reading.{KeepsBody, ReaderStandsFor, heard_of}, Serving.{GoesOnTo, Parties, TalkStandsFor}, Writing.{Answers, PacketSink}, declared.{answer_fault.AnswerFault.AnswerFault, connection.Connection.{Connection, TheVariants.{Open, Closed}}, packet_reader.Heard.Heard}}, proofs.{Interrupts.{came-both, came-one, came-quiet, none-came}, Talks.{answered_more, bytes_both, closed_inputs, inputs_both, inputs_more, open_byte, quiet, quiet_bytes}}}
 use Rattle.debug_link.specs.declared.packet_reader.Heard.TheVariants as heard
 
 abbrev is_whole : Heard → Bool
@@ -214,7 +214,7 @@ module _ {T Session Interrupt W : Type 0} (stands : T → Session → Type 0) (l
   GoesOnBy old new bytes result =
       (talk : Talk Session) (first : W) → talk.is_over ≡ false
       → TalkStandsFor stands w first old talk
-      → (inputs : List (Input Interrupt)) × (bytes_of inputs ≡ bytes)
+      → (inputs : List (Input Interrupt)) × (input_bytes inputs ≡ bytes)
       × Came (interrupts_of inputs) old new
       × GoesOnTo stands w first new (talk_with_inputs reply talk inputs) result
 

@@ -1,6 +1,6 @@
 -- What comes, and what more of it adds to a conversation.
 use Rattle.std.proofs.{Common.{◌≡◌, ◌∙◌, ◌++◌, ℕ, true, false, List, [], ◌∷◌, None, Option, map, refl, ap, sym, append_assoc, ⊎_elim}, lemmas.{Bool.cases_Bool, List.{append-nil, map-append}}}
-use Rattle.debug_link.specs.{Conversation.{Answer, Input, Talk, answer_to, talk_after_message, bytes_of, mark_of, with_mark, talk_with_byte, talk_with_inputs}, Link.{Message, Silence, Again, Damage, Whole, message_of}, Packet.packets_of}
+use Rattle.debug_link.specs.{Conversation.{Answer, Input, Talk, answer_to, talk_after_message, input_bytes, mark_of, with_mark, talk_with_byte, talk_with_inputs}, Link.{Message, Silence, Again, Damage, Whole, message_of}, Packet.packets_of}
 
 module _ {Session : Type 0} (reply : Session → List ℕ → Answer Session) where
   -- a byte while the conversation is open
@@ -76,11 +76,11 @@ module _ {Session Interrupt : Type 0}
 module _ {Interrupt : Type 0} where
   -- the bytes of two parts of what comes
   pub bytes_both : (one two : List (Input Interrupt)) (first second : List ℕ)
-      → bytes_of one ≡ first → bytes_of two ≡ second
-      → bytes_of (one ++ two) ≡ first ++ second
+      → input_bytes one ≡ first → input_bytes two ≡ second
+      → input_bytes (one ++ two) ≡ first ++ second
   bytes_both one two first second is later =
       map-append (λ (input : Input Interrupt). input.byte) one two
-      ∙ ap (λ (front : List ℕ). front ++ bytes_of two) is
+      ∙ ap (λ (front : List ℕ). front ++ input_bytes two) is
       ∙ ap (λ (end : List ℕ). first ++ end) later
 
 -- bytes that nothing interrupts
@@ -88,7 +88,7 @@ abbrev pub quiet : {Interrupt : Type 0} → List ℕ → List (Input Interrupt)
 quiet bytes = map (λ byte. record { byte = byte; interrupt = None }) bytes
 
 pub quiet_bytes : (Interrupt : Type 0) (bytes : List ℕ)
-    → bytes_of (quiet {Interrupt = Interrupt} bytes) ≡ bytes
+    → input_bytes (quiet {Interrupt = Interrupt} bytes) ≡ bytes
 quiet_bytes Interrupt [] = refl
 quiet_bytes Interrupt (byte ∷ bytes) =
     ap (λ (rest : List ℕ). byte ∷ rest) (quiet_bytes Interrupt bytes)

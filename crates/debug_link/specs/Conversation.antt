@@ -89,8 +89,8 @@ pub record Input (Interrupt : Type 0) : Type 0 where
   pub byte : ℕ
   pub interrupt : Option Interrupt
 
-abbrev pub bytes_of : {Interrupt : Type 0} → List (Input Interrupt) → List ℕ
-bytes_of inputs = map (λ input. input.byte) inputs
+abbrev pub input_bytes : {Interrupt : Type 0} → List (Input Interrupt) → List ℕ
+input_bytes inputs = map (λ input. input.byte) inputs
 
 -- none or one
 abbrev pub count_of : {Interrupt : Type 0} → Option Interrupt → ℕ
@@ -130,6 +130,6 @@ abbrev pub OfSomeTalk : {Session Interrupt : Type 0}
     → (Option Interrupt → Session → List ℕ → Answer Session)
     → Session → (ℕ → Type 0) → List ℕ → (Talk Session → Type 0) → Type 0
 OfSomeTalk {Interrupt = Interrupt} reply session may_come bytes holds =
-    (inputs : List (Input Interrupt)) × (bytes_of inputs ≡ bytes)
+    (inputs : List (Input Interrupt)) × (input_bytes inputs ≡ bytes)
     × may_come (interrupts_of inputs)
     × holds (conversation reply session inputs)

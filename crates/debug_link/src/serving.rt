@@ -1,7 +1,7 @@
 ghost use Rattle.std.specs.Prelude.{◌≡◌, ◌≤◌, ℕ, List, [], Option, false, length, IfSome, option_map};
 ghost use Rattle.outside_edge.specs.Sink.{CountsFaults, Puts};
 ghost use Rattle.source_server.specs.Serving.{Serves};
-ghost use Rattle.debug_link.specs.{Conversation.{HaveCome, Input, LONGEST_BODY as longest, Talk, answer_to, bytes_of, count_of, interrupts_of, mark_of, talk_with_byte, talk_with_inputs}, Link.Message, HeldBody.short_body, Reading.heard_of, Serving.{GoesOnTo, TalkStandsFor, talk_promise}, Writing.{Answers, CountsWriteFaults}};
+ghost use Rattle.debug_link.specs.{Conversation.{HaveCome, Input, LONGEST_BODY as longest, Talk, answer_to, input_bytes, count_of, interrupts_of, mark_of, talk_with_byte, talk_with_inputs}, Link.Message, HeldBody.short_body, Reading.heard_of, Serving.{GoesOnTo, TalkStandsFor, talk_promise}, Writing.{Answers, CountsWriteFaults}};
 
 use crate::answer_fault::AnswerFault;
 use crate::answerer::Answerer;
@@ -42,7 +42,7 @@ pub fn answer_piece<A: Answerer, W: Sink + Drop>(
     ensures goes_on { (talk : Talk A.Session) (first : W) → talk.is_over ≡ false
         → TalkStandsFor A.stands W.Sink first
         (record { reader = reader.old; answerer = answerer.old; packets = packets.old }) talk
-        → (inputs : List (Input A.Interrupt)) × (bytes_of inputs ≡ piece.now)
+        → (inputs : List (Input A.Interrupt)) × (input_bytes inputs ≡ piece.now)
         × HaveCome (interrupts_of inputs) (A.left answerer.old) (A.left answerer.new)
         × GoesOnTo A.stands W.Sink first
         (record { reader = reader.new; answerer = answerer.new; packets = packets.new })

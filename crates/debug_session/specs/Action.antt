@@ -3,8 +3,8 @@ use Rattle.std.specs.{Prelude.{ℕ, ◌==◌, ◌&&◌, ◌||◌, Bool, List, Op
 use Rattle.debug_session.specs.{Number.{number_of, two_numbers}, declared.command.{Command.{Command, TheVariants.{Go, Refused}}, Going.{Going, TheVariants.{On, Step, Range}}, Way.TheVariants.Ahead}}
 
 -- what stands behind this beginning, where a body begins so
-abbrev pub behind : List ℕ → List ℕ → Option (List ℕ)
-behind beginning body =
+abbrev pub rest_behind : List ℕ → List ℕ → Option (List ℕ)
+rest_behind beginning body =
     if bytes_eq (take (length beginning) body) beginning
     then Some (drop (length beginning) body) else None
 
@@ -22,8 +22,8 @@ signalled_or going (Some digits) other = going_with_signal going digits
 
 abbrev pub signalled_action : List ℕ → Command
 signalled_action action =
-    signalled_or On (behind (codes "C") action)
-    (signalled_or Step (behind (codes "S") action) Refused)
+    signalled_or On (rest_behind (codes "C") action)
+    (signalled_or Step (rest_behind (codes "S") action) Refused)
 
 abbrev pub action_of : List ℕ → Command
 action_of action =
@@ -46,4 +46,4 @@ ends_action byte = (byte == 58) || (byte == 59)
 abbrev pub first_action : List ℕ → Command
 first_action text =
     let action : List ℕ = before_first ends_action text in
-    range_or_action action (behind (codes "r") action)
+    range_or_action action (rest_behind (codes "r") action)

@@ -65,14 +65,14 @@ begins_within highest (sight ∷ sights) =
     sight.boundary && (is_cpu sight.next.kind || is_rom sight.next.kind)
     && nat_le sight.level highest
 
-abbrev pub is_within : Step → ℕ → Bool
-is_within step pc = nat_le step.first pc && nat_lt pc step.end
+abbrev pub in_range : Step → ℕ → Bool
+in_range step pc = nat_le step.first pc && nat_lt pc step.end
 
 abbrev pub steps_over : Option Step → Sight → List Sight → Bool
 steps_over None here between = false
 steps_over (Some step) here between =
     (boots between || begins_within step.highest between)
-    && not (is_within step (pc_of here.registers))
+    && not (in_range step (pc_of here.registers))
 
 -- at a boundary: the processor doesn't sleep, or a call of the ROM begins
 abbrev pub is_awake : Sight → Bool

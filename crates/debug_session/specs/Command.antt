@@ -1,6 +1,6 @@
 -- What the body of a packet asks for, in the words of GDB's remote serial protocol.
 use Rattle.std.specs.{Prelude.{ℕ, ◌==◌, Bool, true, false, List, [], ◌∷◌, Option, Some, None, codes, nat_eq, nat_lt, if◌then◌else◌}, Str.bytes_eq, List.{list_any, starts_with}}
-use Rattle.debug_session.specs.{declared.{stop_change.StopChange.TheVariants.{SetBreakpoint, ClearBreakpoint, SetWatch, ClearWatch}, watch.{Watch.Watch, WatchKind.WatchKind}, command.{Command.{Command, TheVariants.{Supported, LastStop, Attached, Registers, Memory, Change, Actions, Go, Monitor, Detach, Kill, Refused, Unknown}}, Way.TheVariants.Back}, request.Request.Request}, Action.{action_of, behind, first_action}, Number.{before_comma, behind_comma, number_of, two_numbers}, Request.request_in}
+use Rattle.debug_session.specs.{declared.{stop_change.StopChange.TheVariants.{SetBreakpoint, ClearBreakpoint, SetWatch, ClearWatch}, watch.{Watch.Watch, WatchKind.WatchKind}, command.{Command.{Command, TheVariants.{Supported, LastStop, Attached, Registers, Memory, Change, Actions, Go, Monitor, Detach, Kill, Refused, Unknown}}, Way.TheVariants.Back}, request.Request.Request}, Action.{action_of, rest_behind, first_action}, Number.{before_comma, behind_comma, number_of, two_numbers}, Request.request_in}
 use Rattle.debug_session.specs.declared.watch.WatchKind.TheVariants as watch
 use Rattle.debug_session.specs.declared.command.Going.TheVariants as going
 
@@ -74,11 +74,11 @@ command_behind (Some rest) command other = command rest
 
 abbrev pub begun_command : List ℕ → Command
 begun_command body =
-    command_behind (behind (codes "m") body) (λ rest. memory_command (two_numbers rest))
-    (command_behind (behind (codes "Z") body) (λ rest. stop_command true rest)
-    (command_behind (behind (codes "z") body) (λ rest. stop_command false rest)
-    (command_behind (behind (codes "vCont;") body) (λ rest. first_action rest)
-    (command_behind (behind (codes "qRcmd,") body) (λ rest. monitor_command (request_in rest))
+    command_behind (rest_behind (codes "m") body) (λ rest. memory_command (two_numbers rest))
+    (command_behind (rest_behind (codes "Z") body) (λ rest. stop_command true rest)
+    (command_behind (rest_behind (codes "z") body) (λ rest. stop_command false rest)
+    (command_behind (rest_behind (codes "vCont;") body) (λ rest. first_action rest)
+    (command_behind (rest_behind (codes "qRcmd,") body) (λ rest. monitor_command (request_in rest))
     (other_command body)))))
 
 abbrev pub command_or : Option Command → Command → Command

@@ -15,7 +15,8 @@ help_text =
     ++ codes "monitor flags     EXEC and AUX\n"
     ++ codes "monitor play      what play prints of these steps\n"
     ++ codes "monitor trace N   the last N lines of their trace file, N in 1..1000\n"
-    ++ codes "monitor until N   continue and reverse-continue stop at N steps too; 0 takes this back\n"
+    ++ codes "monitor until N   continue and reverse-continue stop at N steps too; "
+    ++ codes "0 takes this back\n"
 
 abbrev pub flags_text : Sight → List ℕ
 flags_text here =

@@ -1,12 +1,12 @@
 ghost use Rattle.std.specs.{Prelude.{◌≡◌, ◌<◌, ◌≤◌, ℕ, length, slice_index, true, false, option_map, IfSome}, List.before_first};
-ghost use Rattle.debug_session.specs.{Action.{action_of, behind, ends_action, first_action, is_signal, range_command, going_with_signal, signalled_action}, Number.two_numbers};
+ghost use Rattle.debug_session.specs.{Action.{action_of, rest_behind, ends_action, first_action, is_signal, range_command, going_with_signal, signalled_action}, Number.two_numbers};
 
 use crate::command::{Command, Going, Way};
 use crate::number::{number_of, two_numbers};
 
 /// What stands behind this beginning, where a body begins so.
-pub fn behind<'a>(beginning: &[u8], body: &'a [u8]) -> Option<&'a [u8]>
-    ensures behind { option_map (λ rest. rest.now) result ≡ behind beginning.now body.now }
+pub fn rest_behind<'a>(beginning: &[u8], body: &'a [u8]) -> Option<&'a [u8]>
+    ensures behind { option_map (λ rest. rest.now) result ≡ rest_behind beginning.now body.now }
     ensures len { IfSome result (λ rest. length rest.now ≤ length body.now) }
 {
     body.strip_prefix(beginning)
@@ -17,7 +17,7 @@ pub fn read_first_action(text: &[u8]) -> Command
     ensures { result ≡ first_action text.now }
 {
     let action = one_action(text);
-    match behind(b"r", action) {
+    match rest_behind(b"r", action) {
         Some(range) => read_range(range),
         None => read_action(action),
     }
@@ -72,9 +72,9 @@ pub fn read_action(action: &[u8]) -> Command
 fn signalled_action(action: &[u8]) -> Command
     ensures { result ≡ signalled_action action.now }
 {
-    if let Some(signal) = behind(b"C", action) {
+    if let Some(signal) = rest_behind(b"C", action) {
         going_with_signal(Going::On, signal)
-    } else if let Some(signal) = behind(b"S", action) {
+    } else if let Some(signal) = rest_behind(b"S", action) {
         going_with_signal(Going::Step, signal)
     } else {
         Command::Refused

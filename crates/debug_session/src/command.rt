@@ -1,7 +1,7 @@
 ghost use Rattle.std.specs.Prelude.{◌≡◌, ◌≤◌, length};
 ghost use Rattle.debug_session.specs.{Command.{command_of, word_command, begun_command, begins_with_any, other_command, memory_command, monitor_command, stop_command, stop_numbered, watch_kind_of, breakpoint_command, watch_command}, Number.two_numbers, Request.request_in};
 
-use crate::action::{behind, read_action, read_first_action};
+use crate::action::{read_action, read_first_action, rest_behind};
 use crate::number::{cut_at_comma, number_of, two_numbers};
 use crate::request::{Request, read_request};
 use crate::stop_change::StopChange;
@@ -93,15 +93,15 @@ fn begun_command(body: &[u8]) -> Command
     requires { length body.now ≤ 4096 }
     ensures { result ≡ begun_command body.now }
 {
-    if let Some(rest) = behind(b"m", body) {
+    if let Some(rest) = rest_behind(b"m", body) {
         read_memory(rest)
-    } else if let Some(rest) = behind(b"Z", body) {
+    } else if let Some(rest) = rest_behind(b"Z", body) {
         read_stop(true, rest)
-    } else if let Some(rest) = behind(b"z", body) {
+    } else if let Some(rest) = rest_behind(b"z", body) {
         read_stop(false, rest)
-    } else if let Some(rest) = behind(b"vCont;", body) {
+    } else if let Some(rest) = rest_behind(b"vCont;", body) {
         read_first_action(rest)
-    } else if let Some(rest) = behind(b"qRcmd,", body) {
+    } else if let Some(rest) = rest_behind(b"qRcmd,", body) {
         read_monitor(rest)
     } else {
         other_command(body)

@@ -2,7 +2,7 @@
 use Rattle.std.{proofs.{Common.{◌≡◌, ◌≤◌, ◌<◌, ◌+◌, ◌-◌, ◌∙◌, ◌⊎◌, inl, inr, ⊎_elim, ℕ, suc, Bool, true, false, List, [], ◌∷◌, ◌++◌, Option, Some, None, length, refl, ap, sym, subst, arith, zero, is_some}, lemmas.Bool.{cases_lt, cond-true, cond-false, false≢true}}, specs.{Prelude.{◌&&◌, ◌||◌, IfSome, nat_le, not}, Option.option_or}}
 use Rattle.device_types.specs.{declared.{kind.Kind.{Kind, TheVariants.Idle}, rule.Rule.Rule}, Kind.{is_boot, is_cpu, is_rom}}
 use Rattle.part_definitions.specs.CpuRegister.{pc_of}
-use Rattle.debug_session.{specs.{Request.most_steps, declared.{command.Way.TheVariants.{Back, Ahead}, stop.Stop.{Stop, TheVariants.Begin}}, Stops.Stops, Watched.last_hit, Cause.{Step, ahead, begins_within, behind, boots, cause, hit_on, hits, is_plain, is_within, refusal, refusal_or, steps_over, stop_of, cause_here, is_broken_at, is_due}, Going.last_stop, Place.{Run, view_of, sight_at}, Sight.{Sight, View}}, proofs.{Scans.{last-at, last-none}, Stretches.{ahead-behind, HasBegin, has-begin}, Views.view-at}}
+use Rattle.debug_session.{specs.{Request.most_steps, declared.{command.Way.TheVariants.{Back, Ahead}, stop.Stop.{Stop, TheVariants.Begin}}, Stops.Stops, Watched.last_hit, Cause.{Step, ahead, begins_within, behind, boots, cause, hit_on, hits, is_plain, in_range, refusal, refusal_or, steps_over, stop_of, cause_here, is_broken_at, is_due}, Going.last_stop, Place.{Run, view_of, sight_at}, Sight.{Sight, View}}, proofs.{Scans.{last-at, last-none}, Stretches.{ahead-behind, HasBegin, has-begin}, Views.view-at}}
 use Rattle.debug_walk.{specs.{Passing.{IsSilent, Sleeps}, Walk.{IsStretch, TellsCause}, declared.stretch.Stretch.Stretch}, proofs.StretchSteps.told-refused}
 use Rattle.device_debug.specs.{Ahead.{IsLastBehind, stop_with_place, seek_back}, Going.{cause_before, steps_by}}
 
@@ -82,8 +82,8 @@ idle-over None here sight idle = refl
 idle-over (Some one) here sight idle =
     ap (λ (kind : Kind).
     (is_boot kind || begins_within one.highest (sight ∷ []))
-    && not (is_within one (pc_of here.registers))) idle
-    ∙ ap (λ (begins : Bool). begins && not (is_within one (pc_of here.registers)))
+    && not (in_range one (pc_of here.registers))) idle
+    ∙ ap (λ (begins : Bool). begins && not (in_range one (pc_of here.registers)))
     (begins-none one.highest sight idle)
 
 pub plain-none : (here plain : Bool) → (here && plain) ≡ false → here ≡ true → plain ≡ false
@@ -124,7 +124,7 @@ module _ (run : Run) (stops : Stops) (step : Option Step) (from : ℕ) where
       → steps_by one stretch (pc_of here.registers) ≡ steps_over one here between
   steps-same None stretch here between begins boot = refl
   steps-same (Some one) stretch here between begins boot =
-      λ i. (boot i || begins one.highest i) && not (is_within one (pc_of here.registers))
+      λ i. (boot i || begins one.highest i) && not (in_range one (pc_of here.registers))
 
   -- so the cause at a boundary is what was kept of the steps up to the next one
   pub cause-behind : (here until : ℕ) (stretch : Stretch) (plain : Bool)
@@ -225,7 +225,7 @@ steps-known : (run : Run) (stops : Stops) (step : Option Step) (place : ℕ) (st
 steps-known run stops None place stretch here tells = refl
 steps-known run stops (Some one) place stretch here tells =
     let kept = tells.exact refl in
-    λ i. (kept.boot i || kept.begins one.highest i) && not (is_within one (pc_of here.registers))
+    λ i. (kept.boot i || kept.begins one.highest i) && not (in_range one (pc_of here.registers))
 
 pub cause-known : (run : Run) (stops : Stops) (step : Option Step) (place : ℕ) (stretch : Stretch)
     (broken : Bool) (pc : ℕ)

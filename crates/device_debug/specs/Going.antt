@@ -1,7 +1,7 @@
 -- A walk that went to where a debugger stops.
 use Rattle.std.specs.Prelude.{◌≡◌, ◌≤◌, ◌⊎◌, ◌++◌, ℕ, codes, Option, Some, None, Result, IfOk, OnErr, OnOk, ◌&&◌, ◌||◌, Bool, false, nat_le, not}
 use Rattle.device_types.specs.declared.rule.Rule.{Rule}
-use Rattle.debug_session.specs.{Request.most_steps, declared.{command.Way.TheVariants.Ahead, stop.Stop.{Stop, TheVariants.Refused}}, Going.Standing, Place.{Run, view_of}, Session.lines_to, Cause.{Step, is_within, refusal_or, stop_of}}
+use Rattle.debug_session.specs.{Request.most_steps, declared.{command.Way.TheVariants.Ahead, stop.Stop.{Stop, TheVariants.Refused}}, Going.Standing, Place.{Run, view_of}, Session.lines_to, Cause.{Step, in_range, refusal_or, stop_of}}
 use Rattle.debug_link.specs.{Console.console, Packet.packets_of, Writing.{HasPut, PacketSink, PutsPackets}, declared.answer_fault.AnswerFault.AnswerFault}
 use Rattle.debug_walk.specs.{Copies.IsAt, Walk.{IsFresh, Walks, place_of}, declared.{walk.Walk.Walk, stretch.Stretch.Stretch}}
 use Rattle.hmac_core.specs.Hash.{Hash}
@@ -57,7 +57,7 @@ abbrev pub steps_by : Option Step → Stretch → ℕ → Bool
 steps_by None stretch pc = false
 steps_by (Some step) stretch pc =
     (stretch.boots || (stretch.begins && nat_le stretch.level step.highest))
-    && not (is_within step pc)
+    && not (in_range step pc)
 
 -- why a device that goes back stops before a stretch, at a place with this PC
 abbrev pub cause_before : Option Step → Stretch → Bool → ℕ → Option Stop

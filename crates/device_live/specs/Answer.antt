@@ -41,12 +41,12 @@ registers_line start life =
     registers_text (last_registers (logs_after start (play_lived life)).progress)
 
 -- the bytes from an address on that a debugger shows
-abbrev pub run_of : Start → Life → PlayedRun
-run_of start life = record { start = start; events_at = events_in life }
+abbrev pub lived_run : Start → Life → PlayedRun
+lived_run start life = record { start = start; events_at = events_in life }
 
 abbrev pub memory_line : Start → Life → ℕ → ℕ → Bytes
 memory_line start life place count =
-    memory_text place (bytes_shown (sight_at (run_of start life) life.steps) place count)
+    memory_text place (bytes_shown (sight_at (lived_run start life) life.steps) place count)
 
 -- nothing is said, or this of the life as it is
 abbrev pub silent_answer : Life → Answer

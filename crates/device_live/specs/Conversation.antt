@@ -38,15 +38,15 @@ with_answer talk answer =
     }
 
 -- behind one line more, which has this number
-abbrev pub with_line : Start → Talk → ℕ → List ℕ → Talk
-with_line start talk number line =
+abbrev pub talk_with_line : Start → Talk → ℕ → List ℕ → Talk
+talk_with_line start talk number line =
     with_answer talk (or_refusal talk.life number (answer_to start talk.life (short_line line)))
 
 -- behind lines, the newest first, which are numbered from 1
 abbrev pub talk_of : Start → List (List ℕ) → Talk
 talk_of start [] = first_talk
 talk_of start (line ∷ earlier) =
-    with_line start (talk_of start earlier) (suc (length earlier)) line
+    talk_with_line start (talk_of start earlier) (suc (length earlier)) line
 
 -- at the end of the input
 abbrev pub conversation : Start → List (List ℕ) → Bytes

@@ -1,5 +1,5 @@
 -- What a line says to a device that lives.
-use Rattle.std.specs.{Prelude.{ℕ, List, Result, Ok, Err, codes, if◌then◌else◌}, Str.bytes_eq}
+use Rattle.std.specs.{Prelude.{◌-◌, ℕ, List, Result, Ok, Err, codes, if◌then◌else◌}, Str.bytes_eq}
 use Rattle.device_types.specs.declared.event.Event.{Event}
 use Rattle.play_script.specs.Grammar.{happening_of}
 use Rattle.text_scan.specs.{declared.fault_kind.FaultKind.{FaultKind, TheVariants.Word}, Decimal.{decimal_of, long_decimal_of}, Hexadecimal.hex_word_of, Reader.◌>>=◌, Word.{end_of, next_word}}
@@ -13,13 +13,9 @@ pub data LiveLine : Type 0 where
   Registers : LiveLine
   Memory : ℕ → ℕ → LiveLine
 
--- a device makes so many steps at most, 2 to the 48th, of which this is the last, and shows so many
--- bytes at once
+-- a device makes so many steps at most, 2 to the 48th, and shows so many bytes at once
 abbrev pub MOST_STEPS : ℕ
 MOST_STEPS = 0x1000000000000
-
-abbrev pub LAST_STEP : ℕ
-LAST_STEP = 0xFFFFFFFFFFFF
 
 abbrev pub MOST_SHOWN : ℕ
 MOST_SHOWN = 2048
@@ -28,7 +24,7 @@ MOST_SHOWN = 2048
 unfoldable pub happens_of : List (List ℕ) → Result (LiveLine × List (List ℕ)) FaultKind
 happens_of words = do
   number ← next_word words
-  step ← long_decimal_of 0 LAST_STEP number.0
+  step ← long_decimal_of 0 (MOST_STEPS - 1) number.0
   events ← happening_of number.1
   Ok (Happens step events.0, events.1)
 

@@ -14,9 +14,9 @@ count_bytes count = to_le_bytes w32 count
 abbrev pub expected_token : (List ℕ → List ℕ) → List ℕ → Expect → List ℕ
 expected_token digest key expect = request_token digest key expect.chal (count_bytes expect.count)
 
--- the expected challenge and bounds, and the EXEC word: the metadata of version 1
-abbrev pub version_one_metadata : Expect → Bool → List ℕ
-version_one_metadata expect exec =
+-- the expected challenge and bounds, and the EXEC word, which both versions have
+abbrev pub common_metadata : Expect → Bool → List ℕ
+common_metadata expect exec =
     expect.chal
     ++ bytes_of_words
     (expect.bounds.er_min ∷ expect.bounds.er_max ∷ expect.bounds.or_min ∷ expect.bounds.or_max
@@ -32,7 +32,7 @@ request_metadata Two digest key expect aux =
 -- both, with the flags as the report tells them
 abbrev pub expected_metadata : (List ℕ → List ℕ) → List ℕ → Expect → ReportFields → List ℕ
 expected_metadata digest key expect report =
-    version_one_metadata expect report.exec
+    common_metadata expect report.exec
     ++ request_metadata expect.version digest key expect report.aux
 
 -- the image's code, 0 where it has no byte

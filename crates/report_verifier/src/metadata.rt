@@ -1,7 +1,7 @@
 ghost use Rattle.std.specs.Prelude.{◌≡◌, ◌++◌, [], length};
 ghost use Rattle.word_arith.specs.Number.{bit_of};
 ghost use Rattle.device_types.specs.Report.{fields_of};
-ghost use Rattle.report_verifier.specs.{Expectation.{version_one_metadata, request_metadata, expected_metadata}, Validity.metadata_len};
+ghost use Rattle.report_verifier.specs.{Expectation.{common_metadata, request_metadata, expected_metadata}, Validity.metadata_len};
 
 use crate::byte_list::ByteList;
 use crate::expect::Expect;
@@ -29,7 +29,7 @@ pub fn expected_metadata<D: Digest32>(
 
 // Challenge, bounds and EXEC word.
 fn push_first(metadata: &mut ByteList<MOST_METADATA>, expect: &Expect, exec: bool)
-    ensures { metadata.old ≡ [] → metadata.new ≡ version_one_metadata expect.now exec }
+    ensures { metadata.old ≡ [] → metadata.new ≡ common_metadata expect.now exec }
 {
     metadata.push(&expect.chal);
     metadata.push_word(expect.bounds.er_min);

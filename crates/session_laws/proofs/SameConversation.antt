@@ -5,7 +5,7 @@ use Rattle.source_server.specs.HeldLine.{short_line}
 use Rattle.device_trace.specs.{Trace.{Play, released_words}, Start.Start}
 use Rattle.key_isolation.{specs.Keyless.{ReleaseAlike, SameButKey, keyless}, proofs.{Hiding.open_start, TwoKeys.one_keyless}}
 use Rattle.session_laws.{proofs.WithoutKey.{Released, released_before, GoesOn, same_without_key, LeadsOn, goes-nowhere, happening-goes, SameRuns, bytes-same}, specs.LivingSecrecy.{AnswersAlike, IsOneTalk, lived_behind}}
-use Rattle.device_live.specs.{Answer.{Answer, or_refusal, run_of, standing_line, answer_of, says, tells, memory_text, registers_text}, Conversation.{Talk, answer_to, talk_of, with_answer, with_line}, Life.{Life, play_lived, lines_since}, LiveLine.{LiveLine, Happens, Run, Registers, Memory, live_line_of}}
+use Rattle.device_live.specs.{Answer.{Answer, or_refusal, lived_run, standing_line, answer_of, says, tells, memory_text, registers_text}, Conversation.{Talk, answer_to, talk_of, with_answer, talk_with_line}, Life.{Life, play_lived, lines_since}, LiveLine.{LiveLine, Happens, Run, Registers, Memory, live_line_of}}
 use Rattle.printed_lines.specs.Line.{place_line}
 use Rattle.text_scan.specs.{Reader.◌>>=◌, Word.{is_passed_over, words_of}, declared.fault_kind.FaultKind.FaultKind}
 use Rattle.debug_session.specs.Place.{Run as PlayedRun, logs_at}
@@ -26,7 +26,7 @@ since-same same made (suc more) bound =
 module _ (left right : Start) where
   -- the same is read in all steps of a life
   abbrev pub SameLives : Life → Type 0
-  SameLives life = SameRuns (run_of left life) (run_of right life) life.steps
+  SameLives life = SameRuns (lived_run left life) (lived_run right life) life.steps
 
   pub standing-same : (keyword : Bytes) (life : Life) → SameLives life
       → standing_line keyword left life ≡ standing_line keyword right life
@@ -164,13 +164,13 @@ life-same left right (line ∷ earlier) =
 module _ (words : List ℕ) (start : Start) where
   -- these words begin with those that were released in all steps of a life
   abbrev IsReleased : Life → Type 0
-  IsReleased life = Released words (run_of start life) life.steps
+  IsReleased life = Released words (lived_run start life) life.steps
 
   released-earlier : (life later : Life) → GoesOn life later → IsReleased later → IsReleased life
   released-earlier life later goes released =
       subst (λ (play : Play). (more : List ℕ) × (words ≡ released_words start play ++ more))
       goes.play
-      (released_before words (run_of start later) later.steps life.steps goes.steps released)
+      (released_before words (lived_run start later) later.steps life.steps goes.steps released)
 
   abbrev IsReleasedBehind : List (List ℕ) → Type 0
   IsReleasedBehind lines = IsReleased (talk_of start lines).life
@@ -204,18 +204,18 @@ module _ (words : List ℕ) (start : Start) where
   talk-same (line ∷ earlier) released =
       let talk : Talk = talk_of start earlier in
       let life : Life = (talk_of start (line ∷ earlier)).life in
-      let runs = same_without_key words (run_of start life) life.steps released in
+      let runs = same_without_key words (lived_run start life) life.steps released in
       ap (λ (answer : Answer). with_answer talk answer) ((answered line earlier).same runs)
       ∙ ap
       (λ (now : Talk).
-      with_line (open_start words start) now (suc (length earlier)) line)
+      talk_with_line (open_start words start) now (suc (length earlier)) line)
       (talk-same earlier (released-shorter line earlier released))
 
   one_talk : (lines : List (List ℕ)) → IsReleasedBehind lines
       → IsOneTalk start (open_start words start) lines
   one_talk lines released =
       let talk : Talk = talk_of start lines in
-      let runs = same_without_key words (run_of start talk.life) talk.life.steps released in
+      let runs = same_without_key words (lived_run start talk.life) talk.life.steps released in
       let same = talk-same lines released in
       record {
         talk = same;

@@ -2,7 +2,7 @@
 use Rattle.std.{proofs.{Common.{◌≡◌, ◌≤◌, ◌<◌, ◌+◌, ◌-◌, ◌∙◌, ◌⊎◌, inl, ⊎_elim, ℕ, Bool, true, false, List, [], ◌∷◌, Option, Some, None, length, refl, ap, sym, subst, arith}, lemmas.Bool.{and_from, and_parts, and_right, cases_lt, false≢true, le-leb, le-ltb, not_from_false, or_cases, or_left, or_right}}, specs.Prelude.{◌&&◌, ◌||◌, nat_le, not, if◌then◌else◌}}
 use Rattle.device_types.specs.{Kind.{is_cpu, is_rom}, declared.rule.Rule.Rule}
 use Rattle.part_definitions.specs.CpuRegister.{pc_of}
-use Rattle.debug_session.{specs.{Request.most_steps, declared.{command.Way.TheVariants.{Ahead, Back}, stop.Stop.{Stop, TheVariants.{End, Plain, Stepped}}, watch.Hit.Hit}, Stops.Stops, Watched.{first_hit, last_hit}, Cause.{Seek, Step, ahead, begins_within, behind, boots, cause, cause_here, hit_on, hits, is_plain, is_within, refusal, steps_over, stop_of}, Going.{Standing, seek_of, where_to}, Sight.{Sight, View}}, proofs.{Scans.{first-at, last-at}, Stretches.{HasBegin, ahead-behind, behind-first, has-begin}}}
+use Rattle.debug_session.{specs.{Request.most_steps, declared.{command.Way.TheVariants.{Ahead, Back}, stop.Stop.{Stop, TheVariants.{End, Plain, Stepped}}, watch.Hit.Hit}, Stops.Stops, Watched.{first_hit, last_hit}, Cause.{Seek, Step, ahead, begins_within, behind, boots, cause, cause_here, hit_on, hits, is_plain, in_range, refusal, steps_over, stop_of}, Going.{Standing, seek_of, where_to}, Sight.{Sight, View}}, proofs.{Scans.{first-at, last-at}, Stretches.{HasBegin, ahead-behind, behind-first, has-begin}}}
 use Rattle.debug_session.specs.declared.command.Going.TheVariants as going
 use Rattle.session_laws.{specs.{FirstStop.HasStopped, StepBack.{HasStepped, IsTakenBack, MayStandAt}}, proofs.FirstStops.stops-first}
 
@@ -43,7 +43,7 @@ none-back (hit ∷ hits) none = absurd (cc (none))
 abbrev step_within : ℕ → Step
 step_within highest = record { highest = highest; first = 0; end = 0 }
 
-outside : (highest pc : ℕ) → is_within (step_within highest) pc ≡ false
+outside : (highest pc : ℕ) → in_range (step_within highest) pc ≡ false
 outside highest pc = and_right (nat_le 0 pc) _ (le-ltb pc 0 (omega arith))
 
 -- a step over this, of this level
@@ -52,14 +52,14 @@ over-parts : (highest : ℕ) (here : Sight) (between : List Sight)
     → (boots between || begins_within highest between) ≡ true
 over-parts highest here between is =
     (and_parts (boots between || begins_within highest between)
-    (not (is_within (step_within highest) (pc_of here.registers))) is).0
+    (not (in_range (step_within highest) (pc_of here.registers))) is).0
 
 over-from : (highest : ℕ) (here : Sight) (between : List Sight)
     → (boots between || begins_within highest between) ≡ true
     → steps_over (Some (step_within highest)) here between ≡ true
 over-from highest here between is =
     and_from (boots between || begins_within highest between)
-    (not (is_within (step_within highest) (pc_of here.registers))) is
+    (not (in_range (step_within highest) (pc_of here.registers))) is
     (not_from_false _ (outside highest (pc_of here.registers)))
 
 last-of-three : (a b c d : Bool) → (a && b && c) ≡ true → d ≡ true → (a && b && d) ≡ true

@@ -1,6 +1,6 @@
 -- Lines of a piece that were answered, one more, and where it stopped.
 use Rattle.std.{proofs.{Common.{◌≡◌, ◌≢◌, ◌<◌, ◌∙◌, ◌++◌, ◌+◌, ℕ, zero, suc, List, [], ◌∷◌, Option, Some, None, Ok, Err, length, take, drop, refl, ap, sym, subst, arith, append_assoc, ⊎_elim, ◌≤◌, ◌-◌, true, length-append}, lemmas.{Bool.{cases_Bool, ne_eqb, Decides.nat_tests}, List.{append-nil, get_or-take, length-take, length-take-le}}}, specs.{Prelude.{OnOk, IfErr, Result, nat_eq, slice_index, nat_lt}, Str.Lines.strip_carriage_return}}
-use Rattle.source_server.specs.{declared.halt.Halt.Halt, HeldLine.{HoldsRest, ended_line, last_line, short_line, with_piece, LONGEST_LINE, MOST_HELD, IsCutAnywhere, IsHeld, IsPlain}, LineCut.{LineCut, all_lines, cut_of, no_lines, whole_lines, with_byte, with_bytes, with_last}, Lines.{LinePromise, Settles, Tells, HoldsCut, StopsAmong, TellsPiece}}
+use Rattle.source_server.specs.{declared.halt.Halt.Halt, HeldLine.{HoldsRest, ended_line, last_line, short_line, with_piece, LONGEST_LINE, MOST_HELD, IsCutAnywhere, IsHeld, IsPlain}, LineCut.{LineCut, all_lines, cut_of, empty_cut, whole_lines, with_byte, with_all_bytes, with_last}, Lines.{LinePromise, Settles, Tells, HoldsCut, StopsAmong, TellsPiece}}
 
 -- Pieces of lines.
 
@@ -16,7 +16,7 @@ pub plain_piece : IsPlain
 plain_piece cut [] plain =
     ap (λ (rest : List ℕ). record cut { rest = rest }) (sym (append-nil cut.rest))
 plain_piece cut (byte ∷ piece) plain =
-    ap (λ (one : LineCut). with_bytes one piece) (plain_byte cut byte (plain 0 (omega arith)))
+    ap (λ (one : LineCut). with_all_bytes one piece) (plain_byte cut byte (plain 0 (omega arith)))
     ∙ plain_piece (record cut { rest = cut.rest ++ byte ∷ [] }) piece
     (λ k h. plain (suc k) (omega arith))
     ∙ ap (λ (rest : List ℕ). record cut { rest = rest }) (append_assoc cut.rest (byte ∷ []) piece)
@@ -66,7 +66,7 @@ byte_lines cut byte =
     (cases_Bool (nat_eq byte 10))
 
 pub more_lines : (cut : LineCut) (bytes : List ℕ)
-    → (more : List (List ℕ)) × ((with_bytes cut bytes).lines ≡ more ++ cut.lines)
+    → (more : List (List ℕ)) × ((with_all_bytes cut bytes).lines ≡ more ++ cut.lines)
 more_lines cut [] = ([], refl)
 more_lines cut (byte ∷ bytes) =
     let first = byte_lines cut byte in
@@ -85,11 +85,11 @@ last_more lines (byte ∷ rest) = ((byte ∷ rest) ∷ [], refl)
 -- a line that ends in a piece
 pub line_end : (cut : LineCut) (front : List ℕ)
     → ((k : ℕ) → k < length front → slice_index front k ≢ 10)
-    → with_bytes cut (front ++ 10 ∷ [])
+    → with_all_bytes cut (front ++ 10 ∷ [])
     ≡ record { lines = strip_carriage_return (cut.rest ++ front) ∷ cut.lines; rest = [] }
 line_end cut front plain =
     cut_anywhere cut front (10 ∷ [])
-    ∙ ap (λ (one : LineCut). with_bytes one (10 ∷ [])) (plain_piece cut front plain)
+    ∙ ap (λ (one : LineCut). with_all_bytes one (10 ∷ [])) (plain_piece cut front plain)
 
 -- bytes at the place of an LF
 split_behind : (bytes : List ℕ) (end : ℕ) → end < length bytes → slice_index bytes end ≡ 10
@@ -134,7 +134,7 @@ module _ {X O : Type 0} (promise : LinePromise X O) where
     pub done : List ℕ
     pub parts : piece ≡ done ++ rest
     pub tells : (cut : LineCut) → HoldsCut promise held_first first cut
-        → HoldsCut promise held now (with_bytes cut done)
+        → HoldsCut promise held now (with_all_bytes cut done)
 
   pub none_answered : (piece : List ℕ) (held : Option (List ℕ)) (now : X)
       → IsAnsweredTo piece piece held held now now
@@ -159,7 +159,7 @@ module _ {X O : Type 0} (promise : LinePromise X O) where
             ∙ sym (append_assoc front (10 ∷ []) later))
             ∙ sym (append_assoc so.done (front ++ 10 ∷ []) later);
         tells = λ cut before.
-            let mid : LineCut = with_bytes cut so.done in
+            let mid : LineCut = with_all_bytes cut so.done in
             rw (cut_anywhere cut so.done (front ++ 10 ∷ []), line_end mid front plain, empty)
             (record {
               told = (line_answered mid front (Ok tt)
@@ -178,17 +178,18 @@ module _ {X O : Type 0} (promise : LinePromise X O) where
       → TellsPiece promise held_new now cut piece (Ok tt)
   piece_told {piece} {rest} {held_first} {held} {held_new} {first} {now} so plain pushed cut
       before =
-      let told : HoldsCut promise held now (with_bytes cut so.done) = so.tells cut before in
+      let told : HoldsCut promise held now (with_all_bytes cut so.done) = so.tells cut before in
       record {
         goes_on =
             rw (
               so.parts,
               cut_anywhere cut so.done rest,
-              plain_piece (with_bytes cut so.done) rest plain,
+              plain_piece (with_all_bytes cut so.done) rest plain,
             )
             (record {
               told = told.told;
-              holds = rw pushed ((held_line held (with_bytes cut so.done).rest told.holds).2 rest);
+              holds =
+                  rw pushed ((held_line held (with_all_bytes cut so.done).rest told.holds).2 rest);
             });
         stops = tt;
       }
@@ -206,15 +207,15 @@ module _ {X O : Type 0} (promise : LinePromise X O) where
       → TellsPiece promise held_new new cut piece (Err why)
   piece_stopped {piece} {rest} front back {held_first} {held} {held_new} {long} {line} {first} {old}
       {new} why so is plain pushed ended answered cut before =
-      let mid : LineCut = with_bytes cut so.done in
+      let mid : LineCut = with_all_bytes cut so.done in
       let line_is : List ℕ = strip_carriage_return (mid.rest ++ front) in
       let ended_at : LineCut = record { lines = line_is ∷ mid.lines; rest = [] } in
-      let all : with_bytes cut piece ≡ with_bytes ended_at back =
-      ap (with_bytes cut) (so.parts ∙ ap (λ (one : List ℕ). so.done ++ one)
+      let all : with_all_bytes cut piece ≡ with_all_bytes ended_at back =
+      ap (with_all_bytes cut) (so.parts ∙ ap (λ (one : List ℕ). so.done ++ one)
       (is ∙ sym (append_assoc front (10 ∷ []) back)))
       ∙ cut_anywhere cut so.done ((front ++ 10 ∷ []) ++ back)
       ∙ cut_anywhere mid (front ++ 10 ∷ []) back
-      ∙ ap (λ (one : LineCut). with_bytes one back) (line_end mid front plain) in
+      ∙ ap (λ (one : LineCut). with_all_bytes one back) (line_end mid front plain) in
       let behind = more_lines ended_at back in
       let since = more_lines cut so.done in
       let newer : List (List ℕ) = line_is ∷ since.0 in
@@ -236,17 +237,17 @@ module _ {X O : Type 0} (promise : LinePromise X O) where
   -- lines that came of a piece are among all of its bytes
   pub among_all : (now : X) (why : Halt O) (before piece : List ℕ)
       → StopsAmong (λ lines. promise.stopped now lines why)
-      (with_bytes (cut_of before) piece).lines (whole_lines before)
+      (with_all_bytes (cut_of before) piece).lines (whole_lines before)
       → StopsAmong (λ lines. promise.stopped now lines why) (all_lines (before ++ piece))
       (whole_lines before)
   among_all now why before piece so =
-      let cut : LineCut = with_bytes (cut_of before) piece in
+      let cut : LineCut = with_all_bytes (cut_of before) piece in
       let last = last_more cut.lines cut.rest in
       record {
         later = last.0 ++ so.later;
         newer = so.newer;
         parts = ap (λ (one : LineCut). with_last one.lines one.rest)
-            (cut_anywhere no_lines before piece)
+            (cut_anywhere empty_cut before piece)
             ∙ last.1 ∙ ap (λ (lines : List (List ℕ)). last.0 ++ lines) so.parts
             ∙ sym (append_assoc last.0 so.later (so.newer ++ whole_lines before));
         stopped = so.stopped;
@@ -255,23 +256,23 @@ module _ {X O : Type 0} (promise : LinePromise X O) where
   -- what was held back behind a piece was put
   pub piece_settled : {held : Option (List ℕ)} {mid new : X} (before piece : List ℕ)
       (result : Result Unit (Halt O))
-      → HoldsCut promise held mid (with_bytes (cut_of before) piece)
+      → HoldsCut promise held mid (with_all_bytes (cut_of before) piece)
       → ((lines : List (List ℕ)) → promise.told mid lines → Settles promise new lines result)
       → OnOk result (HoldsCut promise held new (cut_of (before ++ piece))
       × promise.answered new (whole_lines (before ++ piece)))
       × IfErr result (λ why. StopsAmong (λ lines. promise.stopped new lines why)
       (all_lines (before ++ piece)) (whole_lines before))
   piece_settled {held} {mid} {new} before piece (Ok unit) holds settles =
-      let cut : LineCut = with_bytes (cut_of before) piece in
+      let cut : LineCut = with_all_bytes (cut_of before) piece in
       let so = (settles cut.lines holds.told).goes_on in (
         subst (λ (one : LineCut).
             HoldsCut promise held new one × promise.answered new one.lines)
-            (sym (cut_anywhere no_lines before piece))
+            (sym (cut_anywhere empty_cut before piece))
             (record { told = so.0; holds = holds.holds }, so.1),
         tt,
       )
   piece_settled {held} {mid} {new} before piece (Err why) holds settles =
-      let cut : LineCut = with_bytes (cut_of before) piece in
+      let cut : LineCut = with_all_bytes (cut_of before) piece in
       let more = more_lines (cut_of before) piece in (
         tt,
         among_all new why before piece (record {

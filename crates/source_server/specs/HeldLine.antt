@@ -1,6 +1,6 @@
 -- What is held of a line while it comes: its bytes, or that it is too long.
 use Rattle.std.specs.{Prelude.{slice_index, ◌≢◌, ◌≡◌, ◌<◌, ◌++◌, ◌+◌, ℕ, List, length, nat_lt, if◌then◌else◌, Option, Some, None}, Str.Lines.strip_carriage_return}
-use Rattle.source_server.specs.LineCut.{LineCut, with_bytes}
+use Rattle.source_server.specs.LineCut.{LineCut, with_all_bytes}
 
 -- the longest line that is read, without its end
 abbrev pub LONGEST_LINE : ℕ
@@ -46,10 +46,10 @@ IsHeld =
 abbrev pub IsCutAnywhere : Type 0
 IsCutAnywhere =
     (cut : LineCut) (first second : List ℕ)
-    → with_bytes cut (first ++ second) ≡ with_bytes (with_bytes cut first) second
+    → with_all_bytes cut (first ++ second) ≡ with_all_bytes (with_all_bytes cut first) second
 
 abbrev pub IsPlain : Type 0
 IsPlain =
     (cut : LineCut) (piece : List ℕ)
     → ((k : ℕ) → k < length piece → slice_index piece k ≢ 10)
-    → with_bytes cut piece ≡ record cut { rest = cut.rest ++ piece }
+    → with_all_bytes cut piece ≡ record cut { rest = cut.rest ++ piece }

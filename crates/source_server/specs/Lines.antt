@@ -1,6 +1,6 @@
 -- What is answered of bytes that are cut into lines.
 use Rattle.std.specs.Prelude.{◌≡◌, ◌++◌, ℕ, List, Option, Result, OnOk, IfErr}
-use Rattle.source_server.specs.{declared.{halt.Halt.Halt, lines.Lines.Lines}, HeldLine.HoldsRest, LineCut.{LineCut, all_lines, cut_of, whole_lines, with_bytes}, Responder.{Moment, Promise}}
+use Rattle.source_server.specs.{declared.{halt.Halt.Halt, lines.Lines.Lines}, HeldLine.HoldsRest, LineCut.{LineCut, all_lines, cut_of, whole_lines, with_all_bytes}, Responder.{Moment, Promise}}
 
 -- What one who answers lines promises.
 
@@ -39,9 +39,10 @@ pub record StopsAmong (Stops : List (List ℕ) → Type 0) (lines whole : List (
 -- the lines that end in a piece were answered
 pub record TellsPiece {X O : Type 0} (promise : LinePromise X O) (held : Option (List ℕ)) (now : X)
     (cut : LineCut) (piece : List ℕ) (result : Result Unit (Halt O)) : Type 0 where
-  pub goes_on : OnOk result (HoldsCut promise held now (with_bytes cut piece))
+  pub goes_on : OnOk result (HoldsCut promise held now (with_all_bytes cut piece))
   pub stops : IfErr result (λ halt.
-      StopsAmong (λ lines. promise.stopped now lines halt) (with_bytes cut piece).lines cut.lines)
+      StopsAmong (λ lines. promise.stopped now lines halt) (with_all_bytes cut piece).lines
+      cut.lines)
 
 -- who answers the lines, at the edge
 abbrev pub within : {L E : Type 0} → Moment (Lines L) E → Moment L E

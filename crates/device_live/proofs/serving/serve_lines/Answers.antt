@@ -3,7 +3,7 @@ use Rattle.std.{proofs.{Common.{◌≡◌, ◌≤◌, ◌+◌, ◌++◌, ◌∙�
 use Rattle.device_types.specs.{Address.Bytes, TraceFlag.Flag}
 use Rattle.hmac_core.specs.Hash.{Hash}
 use Rattle.outside_edge.{specs.{Buffer.{Buffer, BufferStandsFor}, Calls.Rose, Sink.{CountsFaults, Puts, Takes, TakesPrefix}, declared.{sink.{Failed.Failed, Sink.Ghosts as SinkGhosts}, source.Source.Ghosts as SourceGhosts}}, proofs.{Counts.rose_since, SinkLemmas.{prefix_after, prefix_of_more, takes_both}}}
-use Rattle.source_server.specs.{HeldLine.short_line, LineCut.{LineCut, all_lines, cut_of, no_lines, whole_lines, with_byte, with_bytes, with_last}, Lines.{promise_of, within}, Responder.{Moment, Promise}, Serving.{EndsSo, StopsSo}, Taken.{joined_pieces, most_input}, declared.{halt.Halt.{Halt, TheVariants.{Write, Own}}, lines.Lines.Lines, served.Served.Served}}
+use Rattle.source_server.specs.{HeldLine.short_line, LineCut.{LineCut, all_lines, cut_of, empty_cut, whole_lines, with_byte, with_all_bytes, with_last}, Lines.{promise_of, within}, Responder.{Moment, Promise}, Serving.{EndsSo, StopsSo}, Taken.{joined_pieces, most_input}, declared.{halt.Halt.{Halt, TheVariants.{Write, Own}}, lines.Lines.Lines, served.Served.Served}}
 use Rattle.device_trace.specs.Start.{Start}
 use Rattle.device_live.specs.{Answer.{or_refusal, standing_line}, Conversation.{answer_to, conversation, talk_of, StopsLife, life_promise}, Faults.end_with, Life.{Life, at_power_on}, Living.LivingStandsFor, LineResponder.{AreFew, HasTold, LiveStart, StopsTold, live_promise}, declared.living.Living.Living}
 use Rattle.source_server.specs.declared.served.Served.TheVariants as served
@@ -20,7 +20,7 @@ byte-lines cut byte =
     (cases_Bool (nat_eq byte 10))
 
 cut-lines : (cut : LineCut) (bytes : List ℕ)
-    → length (with_bytes cut bytes).lines + length (with_bytes cut bytes).rest
+    → length (with_all_bytes cut bytes).lines + length (with_all_bytes cut bytes).rest
     ≤ length cut.lines + length cut.rest + length bytes
 cut-lines cut [] = omega arith
 cut-lines cut (byte ∷ bytes) =
@@ -32,14 +32,14 @@ last-lines lines [] = omega arith
 last-lines lines (byte ∷ rest) = omega arith
 
 few-whole : (bytes : List ℕ) → length bytes ≤ most_input → AreFew (whole_lines bytes)
-few-whole bytes few = omega (arith, few, cut-lines no_lines bytes)
+few-whole bytes few = omega (arith, few, cut-lines empty_cut bytes)
 
 few-all : (bytes : List ℕ) → length bytes ≤ most_input → AreFew (all_lines bytes)
 few-all bytes few =
     omega (
       arith,
       few,
-      cut-lines no_lines bytes,
+      cut-lines empty_cut bytes,
       last-lines (cut_of bytes).lines (cut_of bytes).rest,
     )
 
