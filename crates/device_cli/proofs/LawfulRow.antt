@@ -1,6 +1,8 @@
 -- What a row puts is put of a lawful play.
 use Rattle.std.{proofs.{Common.{◌≡◌, ◌<◌, ℕ, Bool, true, false, List, Option, Some, Result, Ok, Err, refl, length, subst, unwrap_or, arith}, lemmas.List.{Elements.All-from_get_or, FromFn.get_or-range_with_len}}, specs.Prelude.{if◌then◌else◌, nat_lt}}
 use Rattle.part_definitions.specs.TrustedFlag.{aux}
+use Rattle.device_trace.specs.Trace.{play_of}
+use Rattle.play_script.specs.Script.{events_of}
 use Rattle.text_scan.{specs.{Key.key_of, declared.fault_at.FaultAt.FaultAt}, proofs.HexBytes.key_of-ok}
 use Rattle.hex_loader.{specs.HexImage.image_of, proofs.ImageBytes.image_of-bytes}
 use Rattle.hmac_core.proofs.SameBytes.{sha256-bytes}
@@ -8,7 +10,7 @@ use Rattle.sha2.{proofs.Facts256.length-sha256, specs.Sha256.sha256}
 use Rattle.mac_coverage.specs.Coverage.{Gives32Bytes, IsDeviceKey, IsOfBytes}
 use Rattle.report_verifier.{specs.{Policy.PolicyFields, PolicyGrammar.policy_of, Validity.are_valid_for, Judge.{Judge, judge_with}}, proofs.PolicyBounds.policy_of-valid}
 use Rattle.input_files.specs.{Row.{FileKind, RowOf, Ends, Reads, go_on, read_file, file_value}, Reading.{Files, Reaches}, FileKind.{image_kind, key_kind, policy_kind, script_kind}}
-use Rattle.device_cli.{specs.{Row.{Always, DevicePlay, start_in}, Load.{load_key, load_image}, FileKind.reports_kind, Answer.{IsLawful, IsLawfulRow, IsPutLawfully}, Play.{PlayOutcome, play_with, steps_of, steps_row}, Acceptance.EachAcceptHasGrounds, Round.{RoundsHaveGrounds, round_row}, Verify.verify_row, Work.{load_play, work_row}}, proofs.Grounds.each_accept-has_grounds}
+use Rattle.device_cli.{specs.{Row.{Always, DevicePlay, Outcome, start_in}, Load.{load_key, load_image}, FileKind.reports_kind, Answer.{IsLawful, IsLawfulRow, IsPutLawfully}, Play.{play_with, steps_row}, Acceptance.EachAcceptHasGrounds, Round.{RoundsHaveGrounds, round_row}, Verify.verify_row, Work.{load_play, work_row}}, proofs.Grounds.each_accept-has_grounds}
 use Rattle.device_play.proofs.WatchedPlay.{keeps_key_hidden, obeys_laws}
 
 -- the value of a kind of file is that of its grammar
@@ -74,7 +76,7 @@ image_bytes : (bytes : List ℕ) (image : ℕ → Option ℕ) → image_of bytes
 image_bytes bytes image is = λ place. rw is at (image_of-bytes bytes place)
 
 -- what is put of a play
-pub steps_row_lawful : (outcome : PlayOutcome) (image script key : List ℕ) (steps : ℕ)
+pub steps_row_lawful : (outcome : DevicePlay → Outcome) (image script key : List ℕ) (steps : ℕ)
     → ((device_play : DevicePlay) → (outcome device_play).device_play ≡ Some device_play)
     → IsLawfulRow (steps_row outcome image script key steps)
 steps_row_lawful outcome image script key steps plays =
@@ -120,7 +122,7 @@ rounds_have_grounds image script key policy steps =
     read-always AcceptsHaveGrounds script_kind script _ (λ script_read script_bytes script_is.
     read-always AcceptsHaveGrounds policy_kind policy _ (λ policy_read policy_bytes policy_is.
     each_accept-has_grounds aux (judge_with key_read image_read policy_read)
-    (λ place. unwrap_or (image_read place) 0) (steps_of steps script_read)
+    (λ place. unwrap_or (image_read place) 0) (play_of (events_of script_read) steps)
     (device_key key_bytes key_read key_is) (image_bytes bytes image_read image_is)
     (image_bytes bytes image_read image_is) sha256_gives
     (valid_bounds policy_bytes policy_read policy_is)))))

@@ -2,8 +2,8 @@
 use Rattle.std.{proofs.{Common.{◌≡◌, ◌∙◌, ◌+◌, ◌==◌, ◌&&◌, ◌||◌, ℕ, Bool, true, false, not, List, [], ◌∷◌, ◌++◌, Option, None, Some, refl, sym, ap, arith}, lemmas.Bool.{and_right, Decides.nat_tests}}, specs.{Prelude.{nat_le, nat_lt, option_to_list}, List.list_any}}
 use Rattle.word_arith.specs.{declared.size.Size.{Size, TheVariants.{Byte, Word}}}
 use Rattle.device_types.specs.{declared.{access.Access.{Access, TheVariants.{Fetch, Read, Write}}, bounds.Bounds.Bounds, bus_record.BusRecord.BusRecord, kind.Kind.TheVariants.Cpu, region.Region.Region, signals.Signals.Signals}, Access.{some_writes, without_number}, Bounds.{executable_region, output_region}, ExecFlag.{fetches_outside, ran_at, ran_inside, writes_to}, Map.{is_within, key_region, lies_in, metadata_region, ram_region, rom_region, stack_region, timer_region, serial_region, dma_region, touches, some_touches, ROM_EXIT}, TraceFlag.{IsRecordOf, is_quiet}}
-use Rattle.part_definitions.specs.{CpuRegister.Registers, CpuState.{Boundary, Executing, Entering}, FirstRule.{first_rule, breaks_i1}, MonitorRule.{atomicity_rule, key_rule, in_rom, leaves_stack_and_mac, was_inside}, Dma.DmaEvent, Serial.{SerialEvent, byte_sent}, Timer.{TimerEvent, Tick}}
-use Rattle.device_trace.specs.{Logs.{Logs, peripherals_after, vector_of, vector_taken}, Peripherals.{serial_after, with_dma_access, with_timer_access}, Progress.{Progress, Held, InCall, Runs}, Step.record_from, Text.byte_sent_by}
+use Rattle.part_definitions.specs.{CpuRegister.Registers, CpuState.{Boundary, Executing, Entering}, FirstRule.{first_rule, breaks_i1}, MonitorRule.{atomicity_rule, key_rule, in_rom, leaves_stack_and_mac, was_inside}, Dma.{DmaEvent, Store as DmaStore}, Serial.{SerialEvent, byte_sent}, Timer.{TimerEvent, Store as TimerStore, Tick}}
+use Rattle.device_trace.specs.{Logs.{Logs, peripherals_after, vector_of, vector_taken}, Peripherals.{serial_after, with_store}, Progress.{Progress, Held, InCall, Runs}, Step.record_from, Text.byte_sent_by}
 use Rattle.device_core.specs.{Calm.{IsCalm, is_above_rom, is_calm_access, is_free}, Silence.has_line}
 
 -- no byte of an access to free RAM is here
@@ -168,7 +168,7 @@ untaken (Runs (Entering regs other values)) vector = refl
 untaken (InCall regs words) vector = refl
 
 timer-alone : (code : Region) (access : Option Access) (events : List TimerEvent)
-    → is_calm_access code access ≡ true → with_timer_access access events ≡ events
+    → is_calm_access code access ≡ true → with_store timer_region TimerStore access events ≡ events
 timer-alone code None events plain = refl
 timer-alone code (Some (Fetch place)) events plain = refl
 timer-alone code (Some (Read place size)) events plain = refl
@@ -176,7 +176,7 @@ timer-alone code (Some (Write place size number)) events plain =
     rw (free-missed timer_region place refl plain) refl
 
 dma-alone : (code : Region) (access : Option Access) (events : List DmaEvent)
-    → is_calm_access code access ≡ true → with_dma_access access events ≡ events
+    → is_calm_access code access ≡ true → with_store dma_region DmaStore access events ≡ events
 dma-alone code None events plain = refl
 dma-alone code (Some (Fetch place)) events plain = refl
 dma-alone code (Some (Read place size)) events plain = refl

@@ -5,7 +5,7 @@ use Rattle.msp_decode.specs.Head.{head_of}
 use Rattle.part_definitions.specs.{CpuRegister.Registers, CpuState.{CpuState, Boundary, Executing, Entering, completion_or, cpu_after, is_at_boundary}, NextAccess.{Next, Asks, Completes, next_access, entry_access}}
 use Rattle.msp_exec.specs.Course.{level_begun, level_entered}
 use Rattle.word_arith.specs.Number.{Word16}
-use Rattle.device_trace.specs.{Progress.{level_after, level_from_boundary, Progress, Held, Runs, InCall, after_return, fetches_opcode, kind_of, progress_within}, Logs.{Logs, vector_taken, with_record}, Start.Start}
+use Rattle.device_trace.specs.{Progress.{level_after, Progress, Held, Runs, InCall, after_return, fetches_opcode, kind_of, progress_within}, Logs.{Logs, vector_taken, with_record}, Start.Start}
 use Rattle.device_core.{specs.{Bus.logs_after_step, Machine.{cpu_of, level_within}}, proofs.Turns.boundary_kind-Irq}
 
 pub level-step :
@@ -89,7 +89,7 @@ level-idle progress kind vector level idle = rw idle (from-idle progress vector 
 level-reti :
     (regs : Registers) (level : ℕ)
     → level_begun level 0x1300
-    ≡ level_from_boundary
+    ≡ level_after (Runs (Boundary regs))
     (Runs (completion_or (Executing regs (0x1300 ∷ [])) (next_access regs (0x1300 ∷ [])))) level
 unfolding next_access head_of
 level-reti regs level = refl
@@ -98,19 +98,21 @@ level-other :
     (regs : Registers) (word level : ℕ) (next : Next)
     → (word == 0x1300) ≡ false
     → level_begun level word
-    ≡ level_from_boundary (Runs (completion_or (Executing regs (word ∷ [])) next)) level
+    ≡ level_after (Runs (Boundary regs))
+    (Runs (completion_or (Executing regs (word ∷ [])) next)) level
 level-other regs word level (Asks access) other = refl
 level-other regs word level (Completes after) other = rw other refl
 
 level-fetched :
     (regs : Registers) (word level : ℕ) (is : Bool)
     → (word == 0x1300) ≡ is
-    → level_begun level word ≡ level_from_boundary (Runs (cpu_after (Boundary regs) word)) level
+    → level_begun level word
+    ≡ level_after (Runs (Boundary regs)) (Runs (cpu_after (Boundary regs) word)) level
 level-fetched regs word level true is =
     let same : 0x1300 ≡ word = grind (arith, nat_tests) in
     subst
     (λ (word : ℕ). level_begun level word
-    ≡ level_from_boundary (Runs (cpu_after (Boundary regs) word)) level) same
+    ≡ level_after (Runs (Boundary regs)) (Runs (cpu_after (Boundary regs) word)) level) same
     (level-reti regs level)
 level-fetched regs word level false is =
     level-other regs word level (next_access regs (word ∷ [])) is
@@ -125,7 +127,7 @@ level-begun regs word level = level-fetched regs word level (word == 0x1300) ref
 level-entered :
     (regs : Registers) (vector value level : ℕ)
     → level_entered level
-    ≡ level_from_boundary (Runs (cpu_after (Entering regs vector []) value)) level
+    ≡ level_after (Runs (Boundary regs)) (Runs (cpu_after (Entering regs vector []) value)) level
 unfolding entry_access
 level-entered regs vector value level = refl
 

@@ -1,9 +1,9 @@
 -- What the bus stands for, between two steps and within one.
 use Rattle.std.specs.Prelude.{Bool, false, ◌≡◌, ◌&&◌, ℕ, [], ◌∷◌, Option, Some, None, is_some, IfSome}
-use Rattle.device_types.specs.{declared.{access.Access.Access, bus_record.BusRecord.BusRecord, rule.Rule.Rule, signals.Signals.Signals}, TraceFlag.Flag, ExecFlag.{SeenHistory, SeenRecord}}
-use Rattle.part_definitions.specs.{Dma.dma_access, CpuRegister.Registers}
+use Rattle.device_types.specs.{declared.{access.Access.Access, bus_record.BusRecord.BusRecord, rule.Rule.Rule, signals.Signals.Signals}, TraceFlag.Flag, ExecFlag.{SeenHistory, SeenRecord}, Map.{dma_region, timer_region}}
+use Rattle.part_definitions.specs.{Dma.{dma_access, Store as DmaStore}, CpuRegister.Registers, Timer.{Store as TimerStore}}
 use Rattle.mem_map.specs.Memory.{MemoryStandsFor}
-use Rattle.device_trace.specs.{Logs.{Logs, flags_of, flags_shown, vector_of, step_progress, vector_taken, with_record}, Progress.{next_pc_of, last_registers, tells_irq, fetches_opcode}, Signals.{signals_of, step_kind, proposed_access, value_read}, Start.Start, Step.{record_of, record_from, dma_value_read}, Peripherals.{Peripherals as PeripheralLogs, with_timer_access, with_dma_access, serial_after}}
+use Rattle.device_trace.specs.{Logs.{Logs, flags_of, flags_shown, vector_of, step_progress, vector_taken, with_record}, Progress.{next_pc_of, last_registers, tells_irq, fetches_opcode}, Signals.{signals_of, step_kind, proposed_access, value_read}, Start.Start, Step.{record_of, record_from, dma_value_read}, Peripherals.{Peripherals as PeripheralLogs, with_store, serial_after}}
 use Rattle.device_core.specs.{FlagsKept.MonitorsStandFor, declared.{bus.Bus.Bus, last_step.LastStep.LastStep, turn.Turn.Turn, peripherals.Peripherals.Peripherals}, Silence.{where_refused, has_line}}
 use Rattle.device_peripherals.specs.{Timer.TimerStandsFor, Pins.PinsStandFor, Serial.SerialStandsFor, Dma.DmaStandsFor}
 
@@ -19,9 +19,9 @@ pub record PeripheralsStandFor (parts : Peripherals) (logs : PeripheralLogs) : T
 abbrev pub with_processor_access : Option Access → PeripheralLogs → PeripheralLogs
 with_processor_access access logs =
     record {
-      timer = with_timer_access access logs.timer;
+      timer = with_store timer_region TimerStore access logs.timer;
       serial = serial_after None access logs.serial;
-      dma = with_dma_access access logs.dma;
+      dma = with_store dma_region DmaStore access logs.dma;
       pins = logs.pins;
     }
 

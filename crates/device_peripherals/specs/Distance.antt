@@ -1,8 +1,8 @@
 -- A transfer by the steps since its start: no counter, but the list of what happened since.
-use Rattle.std.specs.{Prelude.{◌≡◌, ◌<◌, ◌+◌, ◌*◌, ◌++◌, ℕ, Bool, true, false, List, [], ◌∷◌, length, if◌then◌else◌, is_some, Option, Some, None}, List.list_any}
+use Rattle.std.specs.{Prelude.{slice_index, ◌≡◌, ◌<◌, ◌+◌, ◌*◌, ◌++◌, ℕ, Bool, true, false, List, [], ◌∷◌, length, if◌then◌else◌, is_some, Option, Some, None}, List.list_any}
 use Rattle.word_arith.specs.declared.size.Size.TheVariants.{Word}
 use Rattle.device_types.specs.{declared.access.Access.{Access, TheVariants.{Read, Write}}}
-use Rattle.part_definitions.specs.{PeripheralRegister.register_word, Dma.{DmaEvent, TransferStart, Store, DmaAccess, DeviceReset, DMA_SOURCE, DMA_DESTINATION, DMA_LENGTH, starts, dma_writes, dma_access, dma_word, DMA_CONTROL, place_of_word, latch}}
+use Rattle.part_definitions.specs.{PeripheralRegister.register_word, Dma.{DmaEvent, TransferStart, Store, DmaAccess, DeviceReset, DMA_SOURCE, DMA_DESTINATION, DMA_LENGTH, starts, dma_writes, dma_access, dma_word, DMA_CONTROL, place_of_word}}
 
 -- source, destination and number of words of a start
 pub record Start : Type 0 where
@@ -62,7 +62,8 @@ pub record GoesByDistance (events : List DmaEvent) : Type 0 where
       → length values ≡ 2 * i → dma_access events ≡ Some (Read (place_of_word start.source i) Word)
   pub writes : (start : Start) (values : List ℕ) (i : ℕ) → IsUnderWay start values events
       → length values ≡ 2 * i + 1
-      → dma_access events ≡ Some (Write (place_of_word start.destination i) Word (latch values))
+      → dma_access events
+      ≡ Some (Write (place_of_word start.destination i) Word (slice_index values 0))
   pub only : (access : Access) → dma_access events ≡ Some access
       → (start : Start) × (values : List ℕ) × IsUnderWay start values events
   pub control : dma_word events DMA_CONTROL ≡ (if is_some (dma_access events) then 1 else 0)

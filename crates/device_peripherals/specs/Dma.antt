@@ -1,7 +1,7 @@
 -- Which events the DMA engine stands for.
-use Rattle.std.specs.Prelude.{List, ◌≡◌, ◌+◌, ◌/◌, ◌%◌, false, length}
+use Rattle.std.specs.Prelude.{slice_index, List, ◌≡◌, ◌+◌, ◌/◌, ◌%◌, false, length}
 use Rattle.device_peripherals.specs.{Register.HoldsWrites, declared.{dma.Dma.Dma, activity.{Job.Job, Activity.{Activity, TheVariants.{Idle, Reads, Writes}}}}}
-use Rattle.part_definitions.specs.Dma.{DmaEvent, DMA_SOURCE, DMA_DESTINATION, DMA_LENGTH, dma_writes, transfer_of, Transfer, is_active, place_of_word, latch}
+use Rattle.part_definitions.specs.Dma.{DmaEvent, DMA_SOURCE, DMA_DESTINATION, DMA_LENGTH, dma_writes, transfer_of, Transfer, is_active, place_of_word}
 
 -- Which transfers an activity stands for.
 
@@ -17,7 +17,8 @@ abbrev pub ActivityStandsFor : Activity → Transfer → Type 0
 ActivityStandsFor Idle transfer = is_active transfer ≡ false
 ActivityStandsFor (Reads job) transfer = IsRestOf job transfer × (length transfer.values % 2 ≡ 0)
 ActivityStandsFor (Writes job word) transfer =
-    IsRestOf job transfer × (length transfer.values % 2 ≡ 1) × (word ≡ latch transfer.values)
+    IsRestOf job transfer × (length transfer.values % 2 ≡ 1)
+    × (word ≡ slice_index transfer.values 0)
 
 -- the engine is as these events, newest first, left it
 pub record DmaStandsFor (dma : Dma) (events : List DmaEvent) : Type 0 where

@@ -1,12 +1,13 @@
 ghost use Rattle.std.specs.Prelude.{◌≡◌};
-ghost use Rattle.part_definitions.specs.PeripheralRegister.{register_of, covers, part_of};
+ghost use Rattle.device_types.specs.Address.{even};
+ghost use Rattle.part_definitions.specs.PeripheralRegister.{covers, part_of};
 
 use device_types::even;
 use word_arith::Size;
 
 /// The address of the register that the byte at `place` belongs to.
 pub fn register_place(place: u16) -> u16
-    ensures { result ≡ register_of place }
+    ensures { result ≡ even place }
 {
     even(place)
 }

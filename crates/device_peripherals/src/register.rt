@@ -1,5 +1,6 @@
 ghost use Rattle.std.specs.Prelude.{◌≡◌, ◌%◌, [], ◌∷◌, List, ℕ};
-ghost use Rattle.part_definitions.specs.{Part.{Takes, Answers}, PeripheralRegister.{RegisterWrite, register_write, register_of, register_word}};
+ghost use Rattle.device_types.specs.Address.{even};
+ghost use Rattle.part_definitions.specs.{Part.{Takes, Answers}, PeripheralRegister.{RegisterWrite, register_write, register_word}};
 
 use crate::part::register_place;
 use word_arith::Size;
@@ -46,9 +47,9 @@ impl Register {
 #[tactic(auto, using(crate::proofs::Byte::register_bytes))]
 fn word_after(word: u16, place: u16, size: Size, value: u16) -> u16
     ensures { (writes : List RegisterWrite)
-        → word ≡ register_word writes (register_of place)
+        → word ≡ register_word writes (even place)
         → result
-        ≡ register_word (register_write place size value ∷ writes) (register_of place) }
+        ≡ register_word (register_write place size value ∷ writes) (even place) }
 {
     match size {
         Size::Byte if place % 2 == 0 => word / 0x100 * 0x100 + value % 0x100,

@@ -1,5 +1,5 @@
-ghost use Rattle.std.specs.Prelude.{◌≡◌, [], IfOk};
-ghost use Rattle.part_definitions.specs.{Part.{Takes, Answers, Becomes}, Serial.{Arrival, Load, Store, DeviceReset, waiting_bytes, oldest_byte, has_room, serial_read, serial_word, serial_status, serial_requests, byte_sent}};
+ghost use Rattle.std.specs.Prelude.{◌≡◌, [], IfOk, slice_index};
+ghost use Rattle.part_definitions.specs.{Part.{Takes, Answers, Becomes}, Serial.{Arrival, Load, Store, DeviceReset, waiting_bytes, has_room, serial_read, serial_word, serial_status, serial_requests, byte_sent}};
 
 use crate::part::{covers_byte, part_of_word, register_place};
 use crate::register::Register;
@@ -108,7 +108,7 @@ impl Serial {
     // The oldest byte that waits, 0 where none does.
     fn oldest(&self) -> u16
         ensures { Answers SerialStandsFor self.now
-            (λ events. oldest_byte (waiting_bytes events)) result }
+            (λ events. slice_index (waiting_bytes events) 0) result }
     {
         self.queue.front().copied().map_or(0, u16::from)
     }

@@ -6,7 +6,7 @@ use Rattle.outside_edge.{specs.Sink.{Takes, TakesPrefix}, proofs.SinkLemmas.{pre
 use Rattle.device_trace.specs.{Trace.{Play, play_of, trace}, Start.{Start, with_key}, RegionRun.{TrustedRun, WholeRun}, Text.last_report}
 use Rattle.play_script.specs.declared.playback.Playback.{Playback}
 use Rattle.device_core.{specs.{Device.{LiveStandsFor, steps_made}, Quiet.Question, declared.live.Live.Live, Silence.{OfEach, is_silent, with_idle}}, proofs.Outside.keeps-counter}
-use Rattle.device_play.specs.{Account.{Account, GoesOn, IsPassed, whole_text}, Cuts.TakesOneOf, Midway.{HasGoneOn, IsMidway}, Watching.{HasSeen, IsShown, IsWatched}, declared.put_fault.PutFault.{PutFault, TheVariants.{Write, Memory}}, PlayLaws.{IsLawfulReport, IsLawfulMoment, KeepsKeyHidden, ObeysLaws}}
+use Rattle.device_play.specs.{Account.{Account, GoesOn, IsPassed, whole_text}, Cuts.TakesSuch, Midway.{HasGoneOn, IsMidway}, Watching.{HasSeen, IsShown, IsWatched}, declared.put_fault.PutFault.{PutFault, TheVariants.{Write, Memory}}, PlayLaws.{IsLawfulReport, IsLawfulMoment, KeepsKeyHidden, ObeysLaws}}
 use Rattle.part_definitions.specs.{Hmac.Digest, Request.ATTESTS}
 use Rattle.trace_facts.proofs.{NeverBroken.trace-names_neither, LastReport.last_report-made, SoundPlay.trace-in_call}
 use Rattle.key_isolation.proofs.TwoKeys.{looks_keyless}
@@ -313,7 +313,7 @@ pub watched-failed :
     (result : Result (Live D G × T) PutFault)
     → IsErrAnd result (λ error. error ≡ fault)
     → TakesPrefix stands old new (whole_text account start play)
-    → (fault ≡ Memory → TakesOneOf stands old new (account.cuts start play))
+    → (fault ≡ Memory → TakesSuch stands old new (Contains (account.cuts start play)))
     → IsWatched hash flag stands account old new start play result
 watched-failed (Ok value) is prefix memory = absurd is
 watched-failed {hash} {flag} {start} {play} (Err error) is prefix memory =

@@ -1,7 +1,7 @@
 -- A call that puts text and may run out of memory: what it put, and what it counted.
 use Rattle.std.{proofs.{Common.{◌≡◌, ◌≤◌, ◌⊎◌, [], ℕ, List, Result, Ok, Err, inl, refl, arith, append-nil, ◌∙◌, ◌++◌, ◌∷◌, Bool, true, ap, sym}, Math.ListN.get_or-map, lemmas.List.{length-map, Elements.Contains-push}}, specs.Prelude.{IsErrAnd, Contains, if◌then◌else◌}}
 use Rattle.outside_edge.{specs.{Calls.Rose, Sink.{TakesPrefix, Puts, Takes}}, proofs.SinkLemmas.takes_both}
-use Rattle.device_play.specs.{declared.put_fault.PutFault.{PutFault, TheVariants.{Write, Memory}}, Cuts.{CountsWriteFaults, behind, TakesOneOf, StopsOnlyAt}}
+use Rattle.device_play.specs.{declared.put_fault.PutFault.{PutFault, TheVariants.{Write, Memory}}, Cuts.{CountsWriteFaults, behind, TakesSuch, StopsOnlyAt}}
 
 -- A text of which nothing was put.
 
@@ -79,7 +79,7 @@ pub stops-later :
     (cuts : List (List ℕ)) (fault : PutFault) (result : Result V PutFault)
     → IsErrAnd result (λ error. error ≡ fault)
     → Takes stands old mid before
-    → (fault ≡ Memory → TakesOneOf stands mid new cuts)
+    → (fault ≡ Memory → TakesSuch stands mid new (Contains cuts))
     → StopsOnlyAt stands old new (behind before cuts) result
 stops-later stands old mid new before cuts fault (Ok value) is takes stops = tt
 stops-later stands old mid new before cuts fault (Err error) is takes stops = λ memory.

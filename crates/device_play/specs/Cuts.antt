@@ -12,9 +12,6 @@ behind before cuts = map (λ (cut : Bytes). before ++ cut) cuts
 abbrev pub TakesSuch : {S : Type 0} → (S → Bytes → Type 0) → S → S → (Bytes → Type 0) → Type 0
 TakesSuch stands old new is_so = (bytes : Bytes) × is_so bytes × Takes stands old new bytes
 
-abbrev pub TakesOneOf : {S : Type 0} → (S → Bytes → Type 0) → S → S → List Bytes → Type 0
-TakesOneOf stands old new texts = TakesSuch stands old new (Contains texts)
-
 -- where memory ran out, the sink took bytes of which this is so, and no more
 abbrev pub StopsWhere :
     {S V : Type 0}

@@ -1,10 +1,10 @@
 -- Each access is made by a place and a size that clear bit 0 of a word's place, so it is well
 -- formed.
-use Rattle.std.proofs.{Common.{◌≡◌, ◌/◌, ◌%◌, ℕ, zero, suc, List, [], ◌∷◌, length, Bool, Option, Some, None, IfSome, All, arith, ◌==◌}, lemmas.Bool.cond_both, Math.Nat.mul-mod_left}
+use Rattle.std.proofs.{Common.{slice_index, ◌≡◌, ◌/◌, ◌%◌, ℕ, zero, suc, List, [], ◌∷◌, length, Bool, Option, Some, None, IfSome, All, arith, ◌==◌}, lemmas.Bool.cond_both, Math.Nat.mul-mod_left}
 use Rattle.word_arith.specs.{declared.size.Size.{Size, TheVariants.{Byte, Word}}}
 use Rattle.msp_decode.specs.{declared.head.Head.Head, Head.head_of}
 use Rattle.device_types.specs.{Access.{IsFormed, without_number}, declared.{access.Access.{Access, TheVariants.{Fetch, Read, Write}}, event.Event.Event, bounds.Bounds.Bounds, kind.Kind.{Kind, TheVariants.{Boot, Cpu, Idle, Irq, Rom}}, rule.Rule.Rule}, Map.{RESET_VECTOR, mac_region}}
-use Rattle.part_definitions.specs.{BusAccess.{fetch_at, read_at, write_at}, Attestation.{CallItem, KeyRead, MetadataRead, KeptRead, KeptWrite, DecisionWrite, DerivedKeyWrite, RegionRead, InnerDigestWrite, MacWrite, ReturnRead, item_access, bounds_read, call_item}, declared.{cpu_access.CpuAccess.{CpuAccess, TheVariants.{FetchImmediate, FetchSourceIndex, ReadSource, ReadIncrementing, FetchDestinationIndex, ReadDestination, WriteResult, PushSource, PushPc, PopSr, PopPc}}, working_state.WorkingState.WorkingState}, CpuAccess.accesses_of, CpuState.{CpuState, Boundary, Executing, Entering, ask_of, cpu_access}, Dma.{Transfer, is_active, place_of_word, access_at, transfer_access, dma_access, transfer_of, latch}, Instruction.{bus_access, after_value}, NextAccess.{walk, walk_head, next_access, entry_access}, Operand.{size_of, state_at_start}}
+use Rattle.part_definitions.specs.{BusAccess.{fetch_at, read_at, write_at}, Attestation.{CallItem, KeyRead, MetadataRead, KeptRead, KeptWrite, DecisionWrite, DerivedKeyWrite, RegionRead, InnerDigestWrite, MacWrite, ReturnRead, item_access, bounds_read, call_item}, declared.{cpu_access.CpuAccess.{CpuAccess, TheVariants.{FetchImmediate, FetchSourceIndex, ReadSource, ReadIncrementing, FetchDestinationIndex, ReadDestination, WriteResult, PushSource, PushPc, PopSr, PopPc}}, working_state.WorkingState.WorkingState}, CpuAccess.accesses_of, CpuState.{CpuState, Boundary, Executing, Entering, ask_of, cpu_access}, Dma.{Transfer, is_active, place_of_word, access_at, transfer_access, dma_access, transfer_of}, Instruction.{bus_access, after_value}, NextAccess.{walk, walk_head, next_access, entry_access}, Operand.{size_of, state_at_start}}
 use Rattle.device_trace.specs.{Progress.{Progress, Held, Runs, InCall, running_access, access_of}, Logs.{Logs, step_progress}, Signals.{signals_at, step_kind, proposed_access}, Start.Start, Step.{access_recorded, record_of, next_record}, Trace.trace, AccessesAreFormed.AccessesAreFormed}
 
 fetch_at-formed : (place : ℕ) → IsFormed (fetch_at place)
@@ -107,7 +107,7 @@ access_at-formed : (transfer : Transfer) (distance : ℕ) → IsFormed (access_a
 access_at-formed transfer distance =
     cond_both (distance % 2 == 0) (Read (place_of_word transfer.source (distance / 2)) Word)
     (Write (place_of_word transfer.destination (distance / 2)) Word
-    (latch transfer.values)) IsFormed
+    (slice_index transfer.values 0)) IsFormed
     (λ even. place_of_word-even transfer.source (distance / 2))
     (λ odd. place_of_word-even transfer.destination (distance / 2))
 

@@ -1,7 +1,7 @@
 -- What happened to each peripheral: what the events of a step and its record add to the lists.
 use Rattle.std.specs.Prelude.{◌==◌, ◌++◌, ℕ, List, [], ◌∷◌, Option, Some, None, if◌then◌else◌}
 use Rattle.word_arith.specs.{declared.size.Size.{Size, TheVariants.Word}, Number.Word16}
-use Rattle.device_types.specs.{declared.{access.Access.{Access, TheVariants.{Fetch, Read, Write}}, event.Event.{Event, TheVariants.{Rx, Pins, Dma, Reset}}, rule.Rule.Rule}, Map.{lies_in, pins_region, serial_region, timer_region, dma_region, SERIAL_VECTOR, TIMER_VECTOR}, Address.Address}
+use Rattle.device_types.specs.{declared.{access.Access.{Access, TheVariants.{Fetch, Read, Write}}, event.Event.{Event, TheVariants.{Rx, Pins, Dma, Reset}}, region.Region.Region, rule.Rule.Rule}, Map.{lies_in, pins_region, serial_region, timer_region, dma_region, SERIAL_VECTOR, TIMER_VECTOR}, Address.Address}
 use Rattle.part_definitions.specs.{Dma.{DmaEvent, TransferStart, DmaAccess, dma_read}, Pins.pins_read, Serial.{SerialEvent, Arrival, Load, serial_read, serial_requests}, Timer.{TimerEvent, Tick, Acceptance, timer_read, timer_requests}}
 use Rattle.part_definitions.specs.Dma as DmaEngine
 use Rattle.part_definitions.specs.Serial as SerialPort
@@ -43,11 +43,12 @@ requests parts =
     (if serial_requests parts.serial then SERIAL_VECTOR ∷ [] else [])
     ++ (if timer_requests parts.timer then TIMER_VECTOR ∷ [] else [])
 
--- the processor's access, where it is the timer's: a write to one of its registers
-abbrev pub with_timer_access : Option Access → List TimerEvent → List TimerEvent
-with_timer_access (Some (Write place size number)) events =
-    if lies_in timer_region place then IntervalTimer.Store place size number ∷ events else events
-with_timer_access access events = events
+-- the processor's access, where it is a write to a register of the part in this region
+abbrev pub with_store : {E : Type 0} → Region → (Address → Size → ℕ → E) → Option Access → List E
+    → List E
+with_store region store (Some (Write place size number)) events =
+    if lies_in region place then store place size number ∷ events else events
+with_store region store access events = events
 
 -- the entry of the interrupt with this vector may begin in this step
 abbrev pub with_acceptance : Option ℕ → List TimerEvent → List TimerEvent
@@ -59,7 +60,7 @@ with_acceptance (Some vector) events =
 abbrev pub timer_after :
     Option Rule → Option ℕ → Option Access → List TimerEvent → List TimerEvent
 timer_after None acceptance access events =
-    Tick ∷ with_acceptance acceptance (with_timer_access access events)
+    Tick ∷ with_acceptance acceptance (with_store timer_region IntervalTimer.Store access events)
 timer_after (Some rule) acceptance access events = IntervalTimer.DeviceReset ∷ events
 
 -- the processor's access, where it is the serial port's
@@ -75,12 +76,6 @@ serial_after None (Some (Write place size number)) events =
     if lies_in serial_region place then SerialPort.Store place size number ∷ events else events
 serial_after (Some rule) access events = SerialPort.DeviceReset ∷ events
 
--- the processor's access, where it is the engine's: a write to one of its registers
-abbrev pub with_dma_access : Option Access → List DmaEvent → List DmaEvent
-with_dma_access (Some (Write place size number)) events =
-    if lies_in dma_region place then DmaEngine.Store place size number ∷ events else events
-with_dma_access access events = events
-
 -- the engine's own access, which takes a value
 abbrev pub with_dma_value : Option Access → Word16 → List DmaEvent → List DmaEvent
 with_dma_value None value events = events
@@ -88,7 +83,8 @@ with_dma_value (Some access) value events = DmaAccess value ∷ events
 
 abbrev pub dma_after :
     Option Rule → Option Access → Option Access → Word16 → List DmaEvent → List DmaEvent
-dma_after None cpu dma value events = with_dma_value dma value (with_dma_access cpu events)
+dma_after None cpu dma value events =
+    with_dma_value dma value (with_store dma_region DmaEngine.Store cpu events)
 dma_after (Some rule) cpu dma value events = DmaEngine.DeviceReset ∷ events
 
 -- a step ends: the rule that refuses it, the interrupt that it takes, its accesses, the DMA's value

@@ -5,7 +5,7 @@ use Rattle.word_arith.specs.{declared.size.Size.TheVariants.Word, Number.Word16}
 use Rattle.device_types.specs.{declared.{access.Access.Access, kind.Kind.{Kind, TheVariants.{Boot, Cpu, Idle, Irq, Rom}}}, Map.{ROM_ENTRY, RESET_VECTOR}, Address.Address}
 use Rattle.part_definitions.specs.{BusAccess.read_at, Attestation.{call_item, item_access, item_pc, bounds_read, is_return, word_passed}, CpuRegister.{Registers, clear_registers, pc_of, sp_of, with_pc, after_pop, is_asleep}, CpuState.{CpuState, Boundary, Executing, Entering, registers_of, cpu_pc, cpu_access, cpu_after, entry_begun, is_at_boundary}, MonitorRule.in_rom}
 use Rattle.device_trace.specs.Start.{Start}
-use Rattle.msp_decode.specs.{declared.head.Head.TheVariants.Reti, Spelling.word_of}
+use Rattle.msp_decode.specs.Spelling.{RETI_WORD}
 
 pub data Progress : Type 0 where
   -- after power-on and after a reset: the next step boots
@@ -110,15 +110,11 @@ next_progress kind (InCall regs words) access value =
 -- How many handlers were entered and not left, as far as a number of 64 bits counts. One is entered
 -- with the first step of its entry, and left with the fetch of its RETI; a reset leaves all.
 
--- from a boundary to here
-abbrev pub level_from_boundary : Progress → ℕ → ℕ
-level_from_boundary (Runs (Entering regs vector values)) level = min (level + 1) (2 ^ 64 - 1)
-level_from_boundary (Runs (Executing regs (word ∷ values))) level =
-    if word == word_of Reti then level - 1 else level
-level_from_boundary after level = level
-
--- behind a step from the first to the second
+-- behind a step from the first to the second: an interrupt's entry and RETI count as they begin
 abbrev pub level_after : Progress → Progress → ℕ → ℕ
 level_after before Held level = 0
-level_after (Runs (Boundary regs)) after level = level_from_boundary after level
+level_after (Runs (Boundary regs)) (Runs (Entering old vector values)) level =
+    min (level + 1) (2 ^ 64 - 1)
+level_after (Runs (Boundary regs)) (Runs (Executing old (word ∷ values))) level =
+    if word == RETI_WORD then level - 1 else level
 level_after before after level = level

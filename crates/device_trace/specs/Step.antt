@@ -42,16 +42,12 @@ record_from regs now rule value dma_value =
       reset = rule;
     }
 
-abbrev pub record_with : Start → Logs → Signals → BusRecord
-record_with start logs now =
-    record_from (last_registers logs.progress) now
-    (first_rule (last_pc logs.records) now)
-    (value_read start logs now.cpu)
-    (dma_value_read start logs now)
-
 -- the record of the next step, after its events
 unfoldable pub record_of : Start → Logs → Bool → BusRecord
-record_of start logs reset = record_with start logs (signals_of start logs reset)
+record_of start logs reset =
+    let now : Signals = signals_of start logs reset in
+    record_from (last_registers logs.progress) now (first_rule (last_pc logs.records) now)
+    (value_read start logs now.cpu) (dma_value_read start logs now)
 
 -- what the next step is about to do, with its events
 abbrev pub next_signals : Start → Logs → List Event → Signals

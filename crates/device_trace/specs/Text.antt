@@ -1,6 +1,6 @@
 -- The text of a play: a line for each step that sent a byte, reset the device or finished a call,
 -- and an end line.
-use Rattle.std.specs.Prelude.{◌==◌, ◌++◌, ℕ, List, [], ◌∷◌, Option, Some, None, length, if◌then◌else◌}
+use Rattle.std.specs.Prelude.{◌==◌, ◌++◌, ℕ, List, [], ◌∷◌, Option, Some, None, length, option_map, unwrap_or, if◌then◌else◌}
 use Rattle.device_types.specs.{declared.{access.Access.{Access, TheVariants.Write}, bus_record.BusRecord.BusRecord, event.Event.Event, rule.Rule.Rule, bounds.Bounds.Bounds, version.Version.TheVariants.Two}, Report.ReportFields, Bounds.are_valid, Address.{Contents, Bytes}}
 use Rattle.part_definitions.specs.{Metadata.{counter_bytes, little_endian}, Request.ATTESTS, Region.{challenge_bytes, mac_bytes, output_bytes}, Serial.byte_sent}
 use Rattle.printed_lines.specs.Line.{sent_line, reset_line, report_line, denied_line, end_line}
@@ -69,8 +69,7 @@ last_denial start play = denial_in (logs_after start play)
 
 -- the line of what there is
 abbrev pub some_line : {A : Type 0} → (A → Bytes) → Option A → Bytes
-some_line line None = []
-some_line line (Some one) = line one
+some_line line one = unwrap_or (option_map line one) []
 
 -- the lines of one step, of its number, its record and the logs after it
 abbrev pub step_lines : Start → ℕ → BusRecord → Logs → Bytes

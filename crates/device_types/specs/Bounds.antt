@@ -9,6 +9,11 @@ pub record AreWords (bounds : Bounds) : Type 0 where
   pub or_min : bounds.or_min < 2 ^ 16
   pub or_max : bounds.or_max < 2 ^ 16
 
+-- ER from its first to its last word, and OR
+abbrev pub bounds_with : Address → Address → Address → Address → Bounds
+bounds_with er_min er_max or_min or_max =
+    record { er_min = er_min; er_max = er_max; or_min = or_min; or_max = or_max }
+
 -- from one word to another, the second byte of the last among them; an end past FFFF wraps
 abbrev pub words_region : Address → Address → Region
 words_region first last = record { first = first; last = (last + 1) % 2 ^ 16 }
@@ -18,9 +23,6 @@ executable_region bounds = words_region bounds.er_min bounds.er_max
 
 abbrev pub output_region : Bounds → Region
 output_region bounds = words_region bounds.or_min bounds.or_max
-
-abbrev pub is_even : Address → Bool
-is_even place = place % 2 == 0
 
 abbrev pub is_part_of : Region → Region → Bool
 is_part_of inner outer = nat_le outer.first inner.first && nat_le inner.last outer.last
@@ -42,7 +44,7 @@ unwrapped_region first last = record { first = first; last = last + 1 }
 -- two even places in order, of such a region
 abbrev pub is_valid_region : Region → Address → Address → Bool
 is_valid_region metadata first last =
-    is_even first && is_even last && nat_le first last
+    (first % 2 == 0) && (last % 2 == 0) && nat_le first last
     && is_free_region metadata (unwrapped_region first last)
 
 -- both regions are valid beside these metadata, and disjoint

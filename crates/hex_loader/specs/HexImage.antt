@@ -1,5 +1,5 @@
 -- The image of an Intel HEX text, or its first fault. Lists of lines have the newest line first.
-use Rattle.std.specs.{Prelude.{◌+◌, ◌&&◌, ◌||◌, ℕ, Bool, true, false, List, [], ◌∷◌, length, reverse, if◌then◌else◌, Option, Some, None, unwrap_or, Result, Ok, Err, ◌≡◌}, Option.option_or, Str.Lines.lines}
+use Rattle.std.specs.{Prelude.{◌+◌, ◌&&◌, ◌||◌, ℕ, Bool, true, false, List, [], ◌∷◌, length, reverse, if◌then◌else◌, Option, Some, None, option_map, unwrap_or, Result, Ok, Err, ◌≡◌}, Option.option_or, List.list_any, Str.Lines.lines}
 use Rattle.text_scan.specs.{declared.{fault_at.FaultAt.FaultAt, fault_kind.FaultKind.{FaultKind, TheVariants.{AfterEnd, NoEnd, Place}}}, Reader.value_or_fault}
 use Rattle.part_definitions.specs.Memory.{is_image_place}
 use Rattle.mem_map.specs.Image.{byte_among, byte_in}
@@ -19,8 +19,7 @@ base_after [] = 0
 base_after (line ∷ earlier) = unwrap_or (base_of (record_in line)) (base_after earlier)
 
 abbrev pub has_ended : List (List ℕ) → Bool
-has_ended [] = false
-has_ended (line ∷ earlier) = is_end (record_in line) || has_ended earlier
+has_ended lines = list_any (λ line. is_end (record_in line)) lines
 
 -- all of these bytes, from the first place upwards, are at places that an image may hold
 abbrev pub are_image_places : ℕ → List ℕ → Bool
@@ -52,14 +51,12 @@ line_fault earlier (first ∷ rest) =
     if has_ended earlier then Some AfterEnd
     else record_fault (base_after earlier) (record_in (first ∷ rest))
 
-abbrev pub fault_with_line : ℕ → Option FaultKind → Option FaultAt
-fault_with_line line (Some kind) = Some (record { line = line; kind = kind })
-fault_with_line line None = None
-
 abbrev pub first_fault : List (List ℕ) → Option FaultAt
 first_fault [] = None
 first_fault (line ∷ earlier) =
-    option_or (first_fault earlier) (fault_with_line (length earlier + 1) (line_fault earlier line))
+    option_or (first_fault earlier)
+    (option_map (λ kind. record { line = length earlier + 1; kind = kind })
+    (line_fault earlier line))
 
 -- where no line has a fault there has to be an end record
 abbrev pub end_fault : List (List ℕ) → Option FaultAt

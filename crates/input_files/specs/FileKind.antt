@@ -9,10 +9,6 @@ use Rattle.input_files.specs.declared.bad_file.BadFile.TheVariants as bad
 
 -- The limits of files that several commands read. Sizes are in bytes.
 
--- the longest file of a key
-abbrev pub key_limit : ℕ
-key_limit = 256
-
 -- the longest file of a policy
 abbrev pub policy_limit : ℕ
 policy_limit = 65536
@@ -25,8 +21,9 @@ text_limit = 1048576
 abbrev pub image_kind : FileKind (ℕ → Option ℕ)
 image_kind = record { limit = text_limit; grammar = image_of; refusal = bad.Image }
 
+-- a key's file has 256 bytes at most
 abbrev pub key_kind : FileKind (List ℕ)
-key_kind = record { limit = key_limit; grammar = key_of; refusal = bad.Key }
+key_kind = record { limit = 256; grammar = key_of; refusal = bad.Key }
 
 abbrev pub script_kind : FileKind (List TimedEvent)
 script_kind = record { limit = text_limit; grammar = script_of; refusal = bad.Script }

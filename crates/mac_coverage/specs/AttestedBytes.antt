@@ -24,21 +24,16 @@ without_flag_words contents =
 abbrev pub tag_of : Digest → Bytes → AttestedBytes → Bytes
 tag_of digest key contents = attestation_tag digest key contents.metadata contents.rest
 
--- as the 16 words of the MAC
-abbrev pub mac_words : Digest → Bytes → AttestedBytes → List Word16
-mac_words digest key contents =
-    map (word_of_bytes (tag_of digest key contents)) (range_with_len 0 16)
-
 -- the decision on the request in the metadata, where these bytes of a counter are kept
 abbrev pub decision_of : Digest → Bytes → AttestedBytes → Bytes → Word16
 decision_of digest key contents kept = request_decision digest key contents.metadata kept
 
--- what a whole call writes to the MAC: the decision, and behind it the MAC where it attests
+-- what a whole call writes to the MAC: the decision, and behind it, where it attests, the tag
 abbrev pub call_words : Digest → Bytes → AttestedBytes → Bytes → List Word16
 call_words digest key contents kept =
     decision_of digest key contents kept
-    ∷ (if decision_of digest key contents kept == ATTESTS then mac_words digest key contents else
-    [])
+    ∷ (if decision_of digest key contents kept == ATTESTS
+    then map (word_of_bytes (tag_of digest key contents)) (range_with_len 0 16) else [])
 
 -- the counter that a call leaves: the request's, where it attests
 abbrev pub counter_left : Digest → Bytes → AttestedBytes → Bytes → Bytes

@@ -1,7 +1,7 @@
 -- The two bytes of a word, written together.
 use Rattle.std.proofs.{Common.{◌≡◌, ◌<◌, ◌+◌, ◌*◌, ◌&&◌, ◌||◌, ◌∷◌, ◌∙◌, ℕ, Bool, true, false, not, List, length, get_or, set, nat_le, refl, ap, sym, arith, get_or-set_same, get_or-set_other, length-set, inl, inr, if◌then◌else◌}, lemmas.Bool.{le-leb, lt-leb, eq-eqb, Decides.{leb_tells, eqb_tells}}}
-use Rattle.device_types.specs.Map.{lies_in, stack_region}
-use Rattle.part_definitions.specs.Memory.{PowerOn, ShownFlags, MemoryWrite, byte_at, first_byte, fixed_byte, last_written, takes_write, is_ram, is_program, is_flag_word}
+use Rattle.device_types.specs.Map.{lies_in, ram_region, stack_region}
+use Rattle.part_definitions.specs.Memory.{PowerOn, ShownFlags, MemoryWrite, byte_at, first_byte, fixed_byte, last_written, takes_write, is_program, is_flag_word}
 
 -- a range of whole words begins before both bytes of a word or before none
 even_first : (first half : ℕ) → nat_le (first * 2) (half * 2 + 1) ≡ nat_le (first * 2) (half * 2)
@@ -45,13 +45,15 @@ takes_write-word half =
     (λ ram. takes_by ram (is_program high) (is_flag_word high) (lies_in stack_region high))
     (whole_words 0x0100 0x10FF half)
     ∙ ap
-    (λ program. takes_by (is_ram low) program (is_flag_word high) (lies_in stack_region high))
+    (λ program.
+    takes_by (lies_in ram_region low) program (is_flag_word high) (lies_in stack_region high))
     (whole_words 0x6000 0x7FFF half)
     ∙ ap
-    (λ flag_word. takes_by (is_ram low) (is_program low) flag_word (lies_in stack_region high))
+    (λ flag_word.
+    takes_by (lies_in ram_region low) (is_program low) flag_word (lies_in stack_region high))
     (whole_words 0x0134 0x0135 half)
     ∙ ap
-    (λ stack. takes_by (is_ram low) (is_program low) (is_flag_word low) stack)
+    (λ stack. takes_by (lies_in ram_region low) (is_program low) (is_flag_word low) stack)
     (whole_words 0x2000 0x21FF half)
 
 -- a write to a place that takes none changes nothing

@@ -1,7 +1,7 @@
 ghost use Rattle.std.specs.Prelude.{◌≡◌, ◌+◌, ◌-◌, ◌*◌, ◌/◌, ◌&&◌, ◌∷◌, [], List, IfOk, IfSome, IsSome, IsTrue, ◌↔◌, length, vec_len};
 ghost use Rattle.word_arith.specs.declared.size.Size.{Size};
 ghost use Rattle.device_types.specs.Address.{even};
-ghost use Rattle.part_definitions.specs.{Memory.{PowerOn, ShownFlags, MemoryWrite, no_flags, byte_at, number_at, with_number, bytes_from}, Metadata.bounds_in};
+ghost use Rattle.part_definitions.specs.{Memory.{PowerOn, ShownFlags, MemoryWrite, no_flags, byte_at, number_at, aligned_place, with_bytes, bytes_from}, Metadata.bounds_in};
 ghost use Rattle.mem_map.specs.{Image.power_on_of, Span.is_span};
 
 use crate::image::Image;
@@ -105,7 +105,7 @@ impl Memory {
     /// memory map takes no write nothing changes.
     #[inline(always)]
     pub fn write(&mut self, place: u16, size: Size, value: u16)
-        ensures { Writes self.old (with_number place size value) self.new }
+        ensures { Writes self.old (with_bytes size (aligned_place size place) value) self.new }
     {
         let [low, high] = value.to_le_bytes();
         match size {

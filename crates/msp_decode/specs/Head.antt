@@ -1,7 +1,7 @@
 -- The head of an instruction word, as a function that computes.
 use Rattle.std.specs.Prelude.{◌/◌, ◌%◌, ◌==◌, ◌&&◌, ◌||◌, not, nat_lt, if◌then◌else◌, Option, Some, None}
 use Rattle.word_arith.specs.{declared.size.Size.Size, Number.Word16}
-use Rattle.msp_decode.specs.{declared.{one.One.One, source_form.SourceForm.SourceForm, head.Head.{Head, TheVariants.{Two, One as OneOperand, Reti, Jump}}}, Spelling.{has_size, takes_result, writes_operand}, Field.{op2_of, one_of, cond_of, size_of_bit, source_of, dest_of, offset_of}}
+use Rattle.msp_decode.specs.{declared.{one.One.One, source_form.SourceForm.SourceForm, head.Head.{Head, TheVariants.{Two, One as OneOperand, Reti, Jump}}}, Spelling.{RETI_WORD, has_size, takes_result, writes_operand}, Field.{op2_of, one_of, cond_of, size_of_bit, source_of, dest_of, offset_of}}
 
 abbrev pub two_head : Word16 → Head
 two_head word =
@@ -25,7 +25,7 @@ unfoldable pub head_of : Word16 → Option Head
 head_of word =
     if nat_lt word 0x1000 then None
     else if nat_lt word 0x1300 then one_head word
-    else if word == 0x1300 then Some Reti
+    else if word == RETI_WORD then Some Reti
     else if nat_lt word 0x2000 then None
     else if nat_lt word 0x4000 then Some (jump_head word)
     else Some (two_head word)

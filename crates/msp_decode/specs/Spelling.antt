@@ -49,6 +49,10 @@ is_legal (OneOperand op size source) =
 is_legal Reti = true
 is_legal (Jump cond offset) = has_range offset
 
+-- RETI has no fields
+abbrev pub RETI_WORD : Word16
+RETI_WORD = 0x1300
+
 -- the word of a head, the sum of its fields
 abbrev pub word_of : Head → Word16
 word_of (Two op size source dest) =
@@ -57,7 +61,7 @@ word_of (Two op size source dest) =
 word_of (OneOperand op size source) =
     0x1000 + one_number op * 0x80 + size_number size * 0x40 + source_mode source * 0x10
     + source_register source
-word_of Reti = 0x1300
+word_of Reti = RETI_WORD
 word_of (Jump cond offset) = 0x2000 + cond_number cond * 0x400 + offset_number offset
 
 -- the word spells the head

@@ -1,6 +1,6 @@
 ghost use Rattle.std.specs.Prelude.{◌≡◌, ℕ, true};
 ghost use Rattle.word_arith.specs.{Op2.alu_result, declared.{flags.Flags.Flags, size.Size.Size}};
-ghost use Rattle.part_definitions.specs.{CpuAccess.accesses_of, Operand.{size_of, state_at_start}, Instruction.{result_of, after_value, registers_after}};
+ghost use Rattle.part_definitions.specs.{CpuAccess.accesses_of, Operand.{size_of, state_at_start}, Instruction.{result_of, after_value, after_result}};
 ghost use Rattle.msp_exec.specs.{Order.{after_source, after_index, after_read, accesses_after, accesses_from}, TwoOperands.{result_of_two, registers_after_two}};
 
 use crate::operand::{add_increment, add_index, constant_word, destination_in};
@@ -193,7 +193,9 @@ fn end_two(work: &mut WorkingState, op: Op2, size: Size, form: DestForm) -> u16
 pub fn end(work: &mut WorkingState, head: &Head) -> u16
     ensures number { result ≡ (result_of head.now work.old).0 }
     ensures after { work.new
-        ≡ record work.old { regs = registers_after head.now work.old } }
+        ≡ record work.old {
+          regs = after_result head.now (result_of head.now work.old) work.old.regs;
+        } }
 {
     match *head {
         Head::Two(op, size, _, form) => end_two(work, op, size, form),
@@ -215,7 +217,9 @@ pub fn end(work: &mut WorkingState, head: &Head) -> u16
 pub fn end_apart(work: &mut WorkingState, head: &Head) -> u16
     ensures number { result ≡ (result_of head.now work.old).0 }
     ensures after { work.new
-        ≡ record work.old { regs = registers_after head.now work.old } }
+        ≡ record work.old {
+          regs = after_result head.now (result_of head.now work.old) work.old.regs;
+        } }
 {
     end(work, head)
 }

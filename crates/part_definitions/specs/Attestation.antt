@@ -2,7 +2,7 @@
 -- read and those that it wrote to the MAC. (VRASED.)
 use Rattle.std.specs.{Prelude.{◌==◌, ◌++◌, ◌+◌, ◌-◌, ◌*◌, ◌/◌, ◌%◌, ℕ, Bool, true, false, List, [], ◌∷◌, length, take, drop, slice_index, map, get_or, nat_lt, if◌then◌else◌, Option, Some}, List.range_with_len}
 use Rattle.word_arith.specs.{declared.size.Size.TheVariants.Word, Number.Word16}
-use Rattle.device_types.specs.{declared.{access.Access.{Access, TheVariants.Write}, bounds.Bounds.Bounds}, Map.{lies_in, key_region, metadata_region, mac_region, DERIVED_KEY, INNER_DIGEST, KEPT_COUNTER, ROM_ENTRY, ROM_BODY, ROM_EXIT}, Bounds.are_valid, Address.{Bytes, Address}}
+use Rattle.device_types.specs.{declared.{access.Access.{Access, TheVariants.Write}, bounds.Bounds.Bounds}, Map.{lies_in, key_region, metadata_region, mac_region, DERIVED_KEY, INNER_DIGEST, KEPT_COUNTER, ROM_ENTRY, ROM_BODY, ROM_EXIT}, Bounds.{are_valid, bounds_with}, Address.{Bytes, Address}}
 use Rattle.part_definitions.specs.{BusAccess.{read_at, write_at}, Hmac.{Digest, hmac, inner_digest}, Metadata.challenge_in, Request.{request_decision, ATTESTS}}
 
 -- one access of a call, with its number among those of its sort
@@ -46,12 +46,8 @@ metadata_word words i = slice_index words (KEY_WORDS + i)
 
 abbrev pub bounds_read : List Word16 → Bounds
 bounds_read words =
-    record {
-      er_min = metadata_word words 16;
-      er_max = metadata_word words 17;
-      or_min = metadata_word words 18;
-      or_max = metadata_word words 19;
-    }
+    bounds_with (metadata_word words 16) (metadata_word words 17) (metadata_word words 18)
+    (metadata_word words 19)
 
 -- how many words there are from one place to another
 abbrev pub words_between : Address → Address → ℕ

@@ -3,10 +3,6 @@ use Rattle.std.specs.{Prelude.{◌&&◌, Bool, Option, Some, None, if◌then◌e
 use Rattle.device_types.specs.{declared.{rule.Rule.{Rule, TheVariants.{X0, I1}}, signals.Signals.Signals}, Address.Address}
 use Rattle.part_definitions.specs.{NextAccess.is_illegal, MonitorRule.{key_rule, atomicity_rule}}
 
--- X0: the script asks for a reset
-abbrev pub breaks_x0 : Signals → Bool
-breaks_x0 now = now.script_reset
-
 -- I1: an opcode fetch reads an illegal word
 abbrev pub breaks_i1 : Signals → Bool
 breaks_i1 now = now.opcode && is_illegal now.word
@@ -18,6 +14,6 @@ rule_where holds rule = if holds then Some rule else None
 -- its `pc` is given
 unfoldable pub first_rule : Option Address → Signals → Option Rule
 first_rule last now =
-    option_or (rule_where (breaks_x0 now) X0)
+    option_or (rule_where now.script_reset X0)
     (option_or (atomicity_rule last now)
     (option_or (key_rule now) (rule_where (breaks_i1 now) I1)))

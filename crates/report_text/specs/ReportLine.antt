@@ -1,6 +1,6 @@
 -- The lines of a report file: what each says, and its first fault.
 use Rattle.std.specs.{Prelude.{false, ℕ, ◌==◌, Bool, List, [], ◌∷◌, if◌then◌else◌, Option, Some, None, Result, Ok, Err, codes}, Str.bytes_eq}
-use Rattle.device_types.specs.{declared.{bounds.Bounds.Bounds, version.Version.{Version, TheVariants.{One, Two}}}, Report.ReportFields, Rule.rule_names}
+use Rattle.device_types.specs.{declared.{bounds.Bounds.Bounds, version.Version.{Version, TheVariants.{One, Two}}}, Bounds.bounds_with, Report.ReportFields, Rule.rule_names}
 use Rattle.text_scan.specs.{declared.fault_kind.FaultKind.{FaultKind, TheVariants.Word}, WordValue.{ends_of, number_of, place_of, hex_block_of, value_of}, Hexadecimal.even_bytes_of, Reader.◌>>=◌, Word.{next_word, keyword_of, end_of}}
 use Rattle.report_verifier.specs.Verdict.{verdict_names}
 use Rattle.report_text.specs.declared.field.Field.{Field}
@@ -44,15 +44,7 @@ bounds_of words = do
   executable ← ends_of behind_er
   behind_or ← keyword_of (codes "or") executable.1
   output ← ends_of behind_or
-  Ok (
-    record {
-      er_min = executable.0.0;
-      er_max = executable.0.1;
-      or_min = output.0.0;
-      or_max = output.0.1;
-    },
-    output.1,
-  )
+  Ok (bounds_with executable.0.0 executable.0.1 output.0.0 output.0.1, output.1)
 
 -- the bytes of an output, `-` for none
 abbrev pub output_in : List ℕ → Result (Option (List ℕ)) FaultKind

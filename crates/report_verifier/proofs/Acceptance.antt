@@ -1,8 +1,8 @@
 -- An accepted report is of the bytes that were expected, or there are two lists with one digest.
 use Rattle.std.{proofs.{Common.{◌≡◌, ◌∙◌, ◌<◌, ◌+◌, ◌-◌, ◌++◌, ◌&&◌, ◌⊎◌, ap, sym, ℕ, List, Bool, true, false, Option, Some, inl, inr, refl, length, length-append, take, drop, arith, ◌∷◌, [], ◌*◌, ◌/◌, ◌%◌, zero, suc}, Math.Seq.{take-append_seam, drop-append_seam}, lemmas.{Bool.{and_parts, cases_Bool, cond-true, eqb-true, false≢true}, Slice.Eq.bytes_eq-Decides, List.Elements.{All-append, All-cons, All-from_get_or, All-nil}}}, specs.{Prelude.{◌==◌, not, if◌then◌else◌, IsTrue, slice_index}, Str.bytes_eq, Int.{w32, to_le_bytes}}}
-use Rattle.device_types.specs.{declared.{bounds.Bounds.Bounds, version.Version.{Version, TheVariants.{One, Two}}}, Bounds.are_valid, Report.ReportFields}
+use Rattle.device_types.specs.{declared.{bounds.Bounds.Bounds, version.Version.{Version, TheVariants.{One, Two}}}, Bounds.{are_valid, bounds_with}, Report.ReportFields}
 use Rattle.part_definitions.{specs.{Hmac.{hmac, inner_digest, outer_input}, Metadata.bounds_in, Region.{metadata_bytes, bounded_bytes, rest_bytes, bytes_between, challenge_bytes, output_bytes}, Attestation.bytes_of_words, Memory.bytes_from}, proofs.BytesFrom.length-bytes_from}
-use Rattle.report_verifier.{specs.{declared.{verdict.Verdict.TheVariants.{Accept, VersionDiffers, ChalDiffers, CountDiffers, BoundsDiffer, ExecZero, AuxZero, MacDiffers}, expect.Expect.Expect, flag_kind.FlagKind.{FlagKind, TheVariants.{Exec, Aux, Plain}}}, Acceptance.{HasFlag, IsAccepted, StandsAsExpected}, Collision.{AreBytes, Collides, GivesBytes, colliding_pair}, Comparison.{expected_key, expected_bytes, own_bytes}, Expectation.{expected_mac, expected_metadata, expected_rest, image_code, report_output, common_metadata, count_bytes, expected_token, request_metadata}, PolicyGrammar.bounds_with, Verdict.{same_version, same_bounds, lacks_exec, lacks_aux, verdict}}, proofs.{Pairs.one_mac-collides, Pushes.take-first, PairBytes.IsByte}}
+use Rattle.report_verifier.{specs.{declared.{verdict.Verdict.TheVariants.{Accept, VersionDiffers, ChalDiffers, CountDiffers, BoundsDiffer, ExecZero, AuxZero, MacDiffers}, expect.Expect.Expect, flag_kind.FlagKind.{FlagKind, TheVariants.{Exec, Aux, Plain}}}, Acceptance.{HasFlag, IsAccepted, StandsAsExpected}, Collision.{AreBytes, Collides, GivesBytes, colliding_pair}, Comparison.{expected_key, expected_bytes, own_bytes}, Expectation.{expected_mac, expected_metadata, expected_rest, image_code, report_output, common_metadata, count_bytes, expected_token, request_metadata}, Verdict.{same_version, same_bounds, lacks_exec, lacks_aux, verdict}}, proofs.{Pairs.one_mac-collides, Pushes.take-first, PairBytes.IsByte}}
 use Rattle.mem_map.specs.Image.{image_byte}
 use Rattle.word_arith.specs.Number.{bit_of}
 

@@ -1,9 +1,9 @@
 -- The bounds of a policy that is read are valid.
 use Rattle.std.{proofs.Common.{◌≡◌, ℕ, List, [], ◌∷◌, Bool, true, false, Result, Ok, Err, IfOk, refl, length}, specs.{Prelude.if◌then◌else◌, Str.Lines.lines}}
-use Rattle.device_types.specs.{declared.{bounds.Bounds.Bounds, version.Version.{Version, TheVariants.{One, Two}}}}
+use Rattle.device_types.specs.{declared.{bounds.Bounds.Bounds, version.Version.{Version, TheVariants.{One, Two}}}, Bounds.bounds_with}
 use Rattle.text_scan.specs.{declared.{fault_at.FaultAt.FaultAt, fault_kind.FaultKind.FaultKind}, LineFold.{text_lines, lines_fold, text_fold, utf8_of}, Reader.{◌>>=◌, in_line}, Word.{is_passed_over, words_of}}
 use Rattle.text_scan.specs.declared.fault_kind.FaultKind.TheVariants as kinds
-use Rattle.report_verifier.specs.{declared.{asked.Asked.Asked, draft.Draft.{Draft, TheVariants.{Empty, VersionKnown, ExecutableKnown, BoundsKnown, Whole}}, policy_line.PolicyLine.{PolicyLine, TheVariants.{VersionTwo, Executable, Output, Flag, Request, Challenge}}}, Policy.PolicyFields, PolicyGrammar.{policy_of, policy_line_of, bounds_with, draft_with, has_request, with_request, with_challenge, draft_after, draft_with_line, whole_policy}, Validity.are_valid_for}
+use Rattle.report_verifier.specs.{declared.{asked.Asked.Asked, draft.Draft.{Draft, TheVariants.{Empty, VersionKnown, ExecutableKnown, BoundsKnown, Whole}}, policy_line.PolicyLine.{PolicyLine, TheVariants.{VersionTwo, Executable, Output, Flag, Request, Challenge}}}, Policy.PolicyFields, PolicyGrammar.{policy_of, policy_line_of, draft_with, has_request, with_request, with_challenge, draft_after, draft_with_line, whole_policy}, Validity.are_valid_for}
 
 -- the bounds that a draft has are valid in its version
 abbrev IsValidPolicy : PolicyFields → Type 0

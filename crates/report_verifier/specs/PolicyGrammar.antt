@@ -1,7 +1,7 @@
 -- The grammar of a policy, and its first fault. Version 1 is `er`, then `or`, then challenges;
 -- version 2 is `version 2`, then `er`, `or` and `flag`, then requests.
 use Rattle.std.specs.{Prelude.{ℕ, ◌==◌, ◌&&◌, Bool, List, [], ◌∷◌, ◌++◌, length, if◌then◌else◌, Result, Ok, Err, codes}, List.list_any, Str.{bytes_eq, Lines.lines}}
-use Rattle.device_types.specs.{declared.{bounds.Bounds.Bounds, version.Version.{Version, TheVariants.{One, Two}}}}
+use Rattle.device_types.specs.{declared.{bounds.Bounds.Bounds, version.Version.{Version, TheVariants.{One, Two}}}, Bounds.bounds_with}
 use Rattle.text_scan.specs.{declared.{fault_at.FaultAt.FaultAt, fault_kind.FaultKind.{FaultKind, TheVariants.{Word, Missing, Order, Twice}}}, WordValue.{ends_of, hex_block_of, number_of}, LineFold.text_fold, Reader.◌>>=◌, Word.{words_of, next_word, end_of}}
 use Rattle.text_scan.specs.declared.fault_kind.FaultKind.TheVariants as kinds
 use Rattle.report_verifier.specs.{declared.{flag_kind.FlagKind.{FlagKind, TheVariants.{Exec, Aux, Plain}}, asked.Asked.Asked, policy_line.PolicyLine.{PolicyLine, TheVariants.{VersionTwo, Executable, Output, Flag, Request, Challenge}}, draft.Draft.{Draft, TheVariants.{Empty, VersionKnown, ExecutableKnown, BoundsKnown, Whole}}}, Policy.PolicyFields, Validity.are_valid_for}
@@ -84,10 +84,6 @@ policy_line_of draft words = do
   line ← kind_for (version_after draft keyword.0) keyword.0 keyword.1
   end ← end_of line.1
   Ok line.0
-
-abbrev pub bounds_with : ℕ → ℕ → ℕ → ℕ → Bounds
-bounds_with er_min er_max or_min or_max =
-    record { er_min = er_min; er_max = er_max; or_min = or_min; or_max = or_max }
 
 -- a policy with no request
 abbrev pub policy_with : Version → Bounds → FlagKind → PolicyFields

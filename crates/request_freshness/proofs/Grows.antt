@@ -1,10 +1,10 @@
 -- Over a play the kept counter does not fall, and the counters of attested requests grow.
-use Rattle.std.{proofs.{Common.{◌≡◌, ℕ, ◌<◌, ◌≤◌, Bool, true, false, List, [], ◌∷◌, ◌++◌, drop, inl, inr, Option, Some, None, length, ap, sym, ◌∙◌, arith, ◌+◌, ◌*◌, take, ◌⊎◌}, lemmas.{Bool.{cases_lt, cond-true, eq-eqb}, List.drop-append-le}}, specs.Prelude.{◌==◌, ◌&&◌, is_none, IsFalse, slice_index}}
+use Rattle.std.{proofs.{Common.{◌≡◌, ℕ, ◌<◌, ◌≤◌, Bool, true, false, List, [], ◌∷◌, ◌++◌, drop, inl, inr, Option, Some, None, length, ap, sym, ◌∙◌, arith, ◌+◌, ◌*◌, take, ◌⊎◌}, lemmas.{Bool.{cases_lt, cond-true, eq-eqb}, List.drop-append-le}}, specs.Prelude.{slice_get, ◌==◌, ◌&&◌, is_none, IsFalse, slice_index}}
 use Rattle.device_types.specs.{declared.{access.Access.{Access, TheVariants.{Fetch, Read, Write}}, bus_record.BusRecord.BusRecord, rule.Rule.Rule, event.Event.Event}, ExecFlag.SeenHistory, Address.{Bytes, Contents}}
 use Rattle.part_definitions.specs.{Metadata.{counter_in, little_endian}, Request.ATTESTS, Hmac.Digest}
 use Rattle.device_trace.specs.{Trace.{Play, trace}, Start.{Start, with_key}}
 use Rattle.mac_coverage.{specs.{AttestedBytes.{AttestedBytes, decision_of}, Coverage.{last_call, mac_written, IsDeviceKey, IsOfBytes, before_call, call_length}}, proofs.{Device.{Device, start_of}, KeptStored.{kept-late, four}, Plays.outcome_at, PlaySteps.{LastWroteHighWord, WritesHighWord}, Words.are_bytes, WordPlan.IsCounter}}
-use Rattle.request_freshness.{specs.Freshness.{Attests, first_word, ends_between_words, kept_counter, writes_high_word}, proofs.Moments.{CallMoments, attests-newer, left_by, call-moments, each_step}}
+use Rattle.request_freshness.{specs.Freshness.{Attests, ends_between_words, kept_counter, writes_high_word}, proofs.Moments.{CallMoments, attests-newer, left_by, call-moments, each_step}}
 
 -- What a step does to the kept counter.
 
@@ -143,7 +143,7 @@ record AttestsHere (device : Device) (play : Play) (counter : ℕ) : Type 0 wher
   older : kept_counter (start_of device) (before_call (start_of device) play) < counter
 
 first_word-is : (words later rest : List ℕ) (decision first : ℕ)
-    → first_word words ≡ Some first → words ++ later ≡ decision ∷ rest
+    → slice_get words 0 ≡ Some first → words ++ later ≡ decision ∷ rest
     → (decision ≡ first) × (1 ≤ length words)
 first_word-is [] later rest decision first is same = absurd (cc)
 first_word-is (word ∷ words) later rest decision first is same = (cc, omega arith)

@@ -1,11 +1,11 @@
 -- The counters in the reports of a play grow.
-use Rattle.std.{proofs.{Common.{◌≡◌, ℕ, suc, ◌≤◌, Bool, true, false, List, [], ◌∷◌, ◌++◌, append-nil, inl, inr, Option, Some, length, ap, sym, ◌∙◌, arith, subst}, lemmas.Bool.{and_parts, cond-true}}, specs.Prelude.{◌==◌, ◌&&◌, is_none, is_some, if◌then◌else◌}}
+use Rattle.std.{proofs.{Common.{◌≡◌, ℕ, suc, ◌≤◌, Bool, true, false, List, [], ◌∷◌, ◌++◌, append-nil, inl, inr, Option, Some, length, ap, sym, ◌∙◌, arith, subst}, lemmas.Bool.{and_parts, cond-true}}, specs.Prelude.{slice_get, ◌==◌, ◌&&◌, is_none, is_some, if◌then◌else◌}}
 use Rattle.device_types.specs.{declared.{bus_record.BusRecord.BusRecord, event.Event.Event, kind.Kind.TheVariants.Rom, rule.Rule.Rule}, Kind.is_rom, Map.ROM_EXIT, Report.ReportFields, ExecFlag.SeenHistory, Address.{Bytes, Contents}}
 use Rattle.part_definitions.specs.{Attestation.{call_item, is_return, word_passed}, Hmac.Digest}
 use Rattle.device_trace.specs.{Trace.{Play, logs_after, trace}, Logs.{Logs, finishes_call, step_progress, vector_of, with_events}, Progress.{InCall, after_return, call_after}, Signals.step_kind, Start.with_key, Text.last_report, Step.{asks_reset, next_record}}
 use Rattle.trace_facts.proofs.ExecFlag.{none_there}
 use Rattle.mac_coverage.{specs.Coverage.{ends_finished, ends_in_call, last_call, mac_written, IsDeviceKey, IsOfBytes, call_length}, proofs.{CallItems.exit_returns, Device.{Device, start_of}, Plays.{Reports, last_report-finishes, outcome_at, rom_kind, record_of-on_call}, Calls.{entry_at, log_at}, PlaySteps.{IsTurnOfCall, entry-kind, entry-pc, entry-step}, Steps.{IsOfCall, OnCall, progress-call_step, rom_step-of_call}}}
-use Rattle.request_freshness.{specs.Freshness.{Attests, TellsNewCounter, first_word}, proofs.{Moments.later_or_first, Grows.{counters-grow, device_of}}}
+use Rattle.request_freshness.{specs.Freshness.{Attests, TellsNewCounter}, proofs.{Moments.later_or_first, Grows.{counters-grow, device_of}}}
 
 -- the progress after a step of a call that is not refused
 record CallProgress (device : Device) (play : Play) (events : List Event)
@@ -155,7 +155,7 @@ report-attests device play report reports =
       in_call = reports.in_call;
       unrefused = reports.refused;
       decision =
-          ap first_word written
+          ap (λ (words : List ℕ). slice_get words 0) written
           ∙ (sym (covers.told reports.finished)
           ∙ reports.attests);
       request = sym reports.count;

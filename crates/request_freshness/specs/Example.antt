@@ -1,10 +1,10 @@
 -- Closed plays at which the laws are computed.
-use Rattle.std.specs.Prelude.{ℕ, [], ◌∷◌, Option, length}
+use Rattle.std.specs.Prelude.{slice_get, ℕ, [], ◌∷◌, Option, length}
 use Rattle.word_arith.specs.Number.{Word16}
 use Rattle.device_types.specs.{declared.event.Event.TheVariants.{Dma, Reset}, Map.COUNTER, Address.Contents}
 use Rattle.device_trace.specs.{Example.{counting_words, event_after, program_of, quiet_steps, start_with}, Trace.{trace, Play}}
 use Rattle.mac_coverage.specs.Coverage.{last_call, mac_written}
-use Rattle.request_freshness.specs.Freshness.{first_word, kept_counter}
+use Rattle.request_freshness.specs.Freshness.{kept_counter}
 
 -- MOV #2200,SP; DINT; CALL #A000; a jump to the call: attests again and again; the counter of the
 -- request is FFFF, its token is right for every counter, and the words of the counter 10000 stand
@@ -41,7 +41,8 @@ abbrev pub kept_then : Play → ℕ
 kept_then play = kept_counter (start_with attesting_loop) play
 
 abbrev pub decision_then : Play → Option Word16
-decision_then play = first_word (mac_written (last_call (trace (start_with attesting_loop) play)))
+decision_then play =
+    slice_get (mac_written (last_call (trace (start_with attesting_loop) play))) 0
 
 abbrev pub steps_then : Play → ℕ
 steps_then play = length (last_call (trace (start_with attesting_loop) play))

@@ -1,5 +1,5 @@
 -- The counter that the device keeps, and the requests that it attests, over a whole play.
-use Rattle.std.specs.Prelude.{◌≡◌, ◌<◌, ◌≤◌, ◌==◌, ◌&&◌, ◌+◌, ◌/◌, ◌++◌, ℕ, Bool, false, List, [], ◌∷◌, length, Option, Some, None, IsTrue, IsFalse, is_none}
+use Rattle.std.specs.Prelude.{slice_get, ◌≡◌, ◌<◌, ◌≤◌, ◌==◌, ◌&&◌, ◌+◌, ◌/◌, ◌++◌, ℕ, Bool, false, List, [], ◌∷◌, length, Option, Some, None, IsTrue, IsFalse, is_none}
 use Rattle.word_arith.specs.Number.{Word16}
 use Rattle.device_types.specs.{declared.{access.Access.{Access, TheVariants.Write}, bus_record.BusRecord.BusRecord}, Map.KEPT_COUNTER, Report.ReportFields, Address.Bytes}
 use Rattle.part_definitions.specs.{Metadata.{counter_bytes, little_endian, token_in}, Region.metadata_bytes, Request.{ATTESTS, right_token}, Hmac.Digest}
@@ -23,16 +23,12 @@ abbrev pub ends_between_words : List BusRecord → Bool
 ends_between_words [] = false
 ends_between_words (entry ∷ history) = is_none entry.reset && writes_high_word entry.cpu
 
--- the first word that a call writes to the MAC is its decision
-abbrev pub first_word : List Word16 → Option Word16
-first_word [] = None
-first_word (word ∷ words) = Some word
-
 -- the last step of a play is one of a call that has decided to attest the request with this counter
 pub record Attests (start : Start) (play : Play) (counter : ℕ) : Type 0 where
   pub in_call : IsTrue (ends_in_call (trace start play))
   pub unrefused : IsFalse (ends_refused (trace start play))
-  pub decision : first_word (mac_written (last_call (trace start play))) ≡ Some ATTESTS
+  -- the first word that a call writes to the MAC is its decision
+  pub decision : slice_get (mac_written (last_call (trace start play))) 0 ≡ Some ATTESTS
   pub request : request_counter start play ≡ counter
 
 -- the call that a longer play ends in began after a shorter one, or was under way at its end

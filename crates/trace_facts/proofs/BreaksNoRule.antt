@@ -1,7 +1,7 @@
 -- What a step breaks, by its first rule: no rule where it has none, A1 or K3 where that is it.
 use Rattle.std.{proofs.{Common.{◌≡◌, ℕ, Bool, true, false, ◌⊎◌, inl, inr, Option, Some, None, refl, arith}, lemmas.Bool.Decides.nat_tests}, specs.{Prelude.if◌then◌else◌, Option.option_or}}
 use Rattle.device_types.specs.{declared.{rule.Rule.{Rule, TheVariants.{X0, A1, A2, A3, A4, K1, K2, K3, K4, K5, K6, I1}}, signals.Signals.Signals}}
-use Rattle.part_definitions.specs.{FirstRule.{breaks_x0, breaks_i1, rule_where, first_rule}, MonitorRule.{breaks_a1, breaks_a2, breaks_a3, breaks_a4, breaks_k1, breaks_k2, breaks_k3, breaks_k4, breaks_k5, breaks_k6, key_rule, atomicity_rule}}
+use Rattle.part_definitions.specs.{FirstRule.{breaks_i1, rule_where, first_rule}, MonitorRule.{breaks_a1, breaks_a2, breaks_a3, breaks_a4, breaks_k1, breaks_k2, breaks_k3, breaks_k4, breaks_k5, breaks_k6, key_rule, atomicity_rule}}
 
 pub record BreaksNoKeyRule (now : Signals) : Type 0 where
   pub k1 : breaks_k1 now ≡ false
@@ -18,7 +18,7 @@ pub record BreaksNoAtomicity (last : Option ℕ) (now : Signals) : Type 0 where
   pub a4 : breaks_a4 now ≡ false
 
 pub record BreaksNoRule (last : Option ℕ) (now : Signals) : Type 0 where
-  pub x0 : breaks_x0 now ≡ false
+  pub x0 : now.script_reset ≡ false
   pub atomicity : BreaksNoAtomicity last now
   pub key : BreaksNoKeyRule now
   pub i1 : breaks_i1 now ≡ false
@@ -58,11 +58,11 @@ pub first_rule-none : (last : Option ℕ) (now : Signals) → first_rule last no
     → BreaksNoRule last now
 unfolding first_rule
 first_rule-none last now none =
-    let x0 = or_else_none (rule_where (breaks_x0 now) X0) _ none in
+    let x0 = or_else_none (rule_where now.script_reset X0) _ none in
     let atomicity = or_else_none (atomicity_rule last now) _ x0.1 in
     let key = or_else_none (key_rule now) (rule_where (breaks_i1 now) I1) atomicity.1 in
     record {
-      x0 = (if_none (breaks_x0 now) X0 None x0.0).0;
+      x0 = (if_none now.script_reset X0 None x0.0).0;
       atomicity = atomicity_rule-none last now atomicity.0;
       key = key_rule-none now key.0;
       i1 = (if_none (breaks_i1 now) I1 None key.1).0;
@@ -115,8 +115,8 @@ first_rule-in : (last : Option ℕ) (now : Signals) (rule : Rule)
     ⊎ ((atomicity_rule last now ≡ None) × (key_rule now ≡ Some rule))
 unfolding first_rule
 first_rule-in last now rule no_x0 no_i1 name =
-    elim (or_else-some (rule_where (breaks_x0 now) X0) _ rule name) [
-      | inl x0 ↦ absurd (no_x0 (other_rule (breaks_x0 now) X0 rule x0))
+    elim (or_else-some (rule_where now.script_reset X0) _ rule name) [
+      | inl x0 ↦ absurd (no_x0 (other_rule now.script_reset X0 rule x0))
       | inr later ↦
           elim (or_else-some (atomicity_rule last now) _ rule later.1) [
             | inl atomicity ↦ inl atomicity

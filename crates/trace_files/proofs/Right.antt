@@ -1,7 +1,7 @@
 -- Each line of a play is right.
 use Rattle.std.{proofs.{Common.{◌≡◌, ℕ, Bool, List, [], ◌∷◌, Option, map, refl, ap, sym, ◌∙◌, arith, true, false, not, Some, None}, lemmas.Bool.{and_parts, eqb-true, cond-false, Decides.nat_tests}}, specs.{Prelude.◌&&◌, Option.option_or}}
 use Rattle.device_types.specs.{declared.{bounds.Bounds.Bounds, event.Event.Event, rule.Rule.{Rule, TheVariants.{X0, I1}}, signals.Signals.Signals, access.Access.{Access, TheVariants.{Fetch, Read, Write}}}, Kind.is_cpu, ExecFlag.{exec, fetches_at, last_pc, SeenRecord, clears, starts_run}, Access.{some_writes, without_number}, Map.{touches, some_touches, key_region, stack_region}}
-use Rattle.part_definitions.specs.{FirstRule.{first_rule, breaks_x0, breaks_i1, rule_where}, MonitorRule.{in_rom, key_rule, atomicity_rule}}
+use Rattle.part_definitions.specs.{FirstRule.{first_rule, breaks_i1, rule_where}, MonitorRule.{in_rom, key_rule, atomicity_rule}}
 use Rattle.device_trace.specs.{Trace.{Play, next_logs, logs_after}, Blank.{blank_record, touches_secrets, blank_access, blank_value}, Logs.{Logs, exec_of, logged_bounds, with_events, with_record}, Progress.last_registers, Signals.{value_read, signals_of}, Start.Start, Step.{asks_reset, dma_value_read, record_from, record_of, next_record, access_recorded}}
 use Rattle.trace_facts.proofs.{BreaksNoRule.key_rule-none, OpcodeFetch.{opcode_in, logs_after-proper}}
 use Rattle.trace_files.specs.{Clean.{signals_in, seen_in, right_rule, right_exec, IsClean}, TraceText.{line_with, next_line, trace_lines}}
@@ -37,7 +37,7 @@ first_rule-dma : (last : Option ℕ) (now : Signals) (dma : Option Access)
     → first_rule last (with_dma now (without_number dma)) ≡ first_rule last (with_dma now dma)
 unfolding first_rule
 first_rule-dma last now dma =
-    λ i. option_or (rule_where (breaks_x0 now) X0)
+    λ i. option_or (rule_where now.script_reset X0)
     (option_or (atomicity_rule-dma last now (without_number dma) dma i)
     (option_or (key_rule-dma now dma i) (rule_where (breaks_i1 now) I1)))
 

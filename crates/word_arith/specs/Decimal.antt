@@ -2,10 +2,6 @@
 use Rattle.std.specs.Prelude.{◌+◌, ◌*◌, ◌/◌, ◌%◌, ℕ, zero, suc, Bool, nat_lt, nat_le, if◌then◌else◌, ◌≡◌, ◌^◌, ◌<◌}
 use Rattle.word_arith.specs.{declared.size.Size.{Size, TheVariants.{Byte, Word}}, Number.bit_of}
 
--- the sum of the lowest decimal place, with the carry in
-abbrev pub lowest_sum : ℕ → ℕ → Bool → ℕ
-lowest_sum left right carry = left % 16 + right % 16 + bit_of carry
-
 -- a sum below 10 is the digit; one of 10 or more is corrected by 6, and carries
 abbrev pub digit_of : ℕ → ℕ
 digit_of sum = if nat_lt sum 10 then sum else (sum + 6) % 16
@@ -14,7 +10,7 @@ digit_of sum = if nat_lt sum 10 then sum else (sum + 6) % 16
 abbrev pub decimal_places : ℕ → ℕ → ℕ → Bool → ℕ × Bool
 decimal_places zero left right carry = (0, carry)
 decimal_places (suc places) left right carry =
-    let sum : ℕ = lowest_sum left right carry in
+    let sum : ℕ = left % 16 + right % 16 + bit_of carry in
     let higher : ℕ × Bool = decimal_places places (left / 16) (right / 16) (nat_le 10 sum) in
     (higher.0 * 16 + digit_of sum, higher.1)
 

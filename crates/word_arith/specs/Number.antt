@@ -1,5 +1,5 @@
 -- Operands of 8 or 16 bits as whole numbers.
-use Rattle.std.specs.Prelude.{◌-◌, ◌/◌, ◌%◌, ℕ, Bool, true, false, nat_le}
+use Rattle.std.specs.Prelude.{◌-◌, ◌/◌, ◌%◌, ℕ, Bool, true, false, nat_le, not, if◌then◌else◌}
 use Rattle.word_arith.specs.declared.size.Size.{Size, TheVariants.{Byte, Word}}
 
 -- a word of 16 bits, as a number
@@ -30,7 +30,4 @@ bit_of false = 0
 
 -- two signs agree
 abbrev pub alike : Bool → Bool → Bool
-alike true true = true
-alike true false = false
-alike false true = false
-alike false false = true
+alike left right = if left then right else not right

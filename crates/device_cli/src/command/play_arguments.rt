@@ -18,11 +18,11 @@ pub struct PlayArguments<'a> {
 impl<'a> PlayArguments<'a> {
     ghost use Rattle.std.specs.Prelude.{◌≡◌, option_map};
     ghost use Rattle.input_files.specs.CommandLine.{texts};
-    ghost use Rattle.device_cli.specs.Play.{PlayOutcome, steps_row, steps_row_of};
+    ghost use Rattle.device_cli.specs.{Play.{steps_row, steps_row_of}, Row.{DevicePlay, Outcome}};
 
     /// Those that are spelled. STEPS is a decimal in 1..10,000,000.
     pub fn from_arguments(arguments: &'a [String]) -> Option<PlayArguments<'a>>
-        ensures { (outcome : PlayOutcome)
+        ensures { (outcome : DevicePlay → Outcome)
             → option_map (λ play. steps_row outcome play.files.image.name.now
             play.files.script.name.now play.files.key.name.now play.steps) result
             ≡ steps_row_of outcome (texts arguments.now) }

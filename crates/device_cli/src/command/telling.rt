@@ -18,10 +18,10 @@ pub trait Telling: Watcher + Copy {
     ghost use Rattle.std.specs.Prelude.{◌≡◌, [], Some, true};
     ghost use Rattle.part_definitions.specs.Hmac.{Digest};
     ghost use Rattle.device_trace.specs.{Trace.Play, Start.Start};
-    ghost use Rattle.device_cli.specs.{Play.PlayOutcome, Row.{DevicePlay, Outcome, IsToldBy}};
+    ghost use Rattle.device_cli.specs.Row.{DevicePlay, Outcome, IsToldBy};
 
     /// What is put of a play.
-    ghost outcome: { PlayOutcome };
+    ghost outcome: { DevicePlay → Outcome };
 
     /// What holds of it once all of it was put.
     ghost once_put: { Outcome → Type 0 };

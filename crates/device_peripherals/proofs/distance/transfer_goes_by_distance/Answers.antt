@@ -1,6 +1,6 @@
 -- A transfer that was started, and its accesses.
-use Rattle.std.{proofs.{Common.{◌≡◌, ℕ, ◌<◌, ◌+◌, ◌*◌, ◌++◌, true, false, List, [], ◌∷◌, length, Some, None, arith, ap, sym, subst, refl, ◌∙◌, inl, inr, is_some, if◌then◌else◌}, lemmas.Bool.{cases_Bool, true≢false, Decides.nat_tests}}, specs.List.list_any}
-use Rattle.part_definitions.specs.{PeripheralRegister.register_word, Dma.{DmaEvent, TransferStart, Store, DmaAccess, DeviceReset, Transfer, transfer_of, transfer_access, access_at, dma_access, dma_word, DMA_CONTROL, is_active, after_start, starts, dma_writes, DMA_SOURCE, DMA_DESTINATION, DMA_LENGTH, after_access, new_transfer, place_of_word, latch}}
+use Rattle.std.{proofs.{Common.{slice_index, ◌≡◌, ℕ, ◌<◌, ◌+◌, ◌*◌, ◌++◌, true, false, List, [], ◌∷◌, length, Some, None, arith, ap, sym, subst, refl, ◌∙◌, inl, inr, is_some, if◌then◌else◌}, lemmas.Bool.{cases_Bool, true≢false, Decides.nat_tests}}, specs.List.list_any}
+use Rattle.part_definitions.specs.{PeripheralRegister.register_word, Dma.{DmaEvent, TransferStart, Store, DmaAccess, DeviceReset, Transfer, transfer_of, transfer_access, access_at, dma_access, dma_word, DMA_CONTROL, is_active, after_start, starts, dma_writes, DMA_SOURCE, DMA_DESTINATION, DMA_LENGTH, after_access, new_transfer, place_of_word}}
 use Rattle.word_arith.specs.declared.size.Size.{Size, TheVariants.Word}
 use Rattle.device_types.specs.declared.access.Access.{Access, TheVariants.{Read, Write}}
 use Rattle.device_peripherals.specs.Distance.{Start, start_of, is_reset, values_of, IsUnderWay, GoesByDistance}
@@ -151,7 +151,7 @@ transfer_access-even start values i within even = rw even (grind (arith, nat_tes
 transfer_access-odd : (start : Start) (values : List ℕ) (i : ℕ) → i < start.words
     → length values ≡ 2 * i + 1
     → transfer_access (stage start values)
-    ≡ Some (Write (place_of_word start.destination i) Word (latch values))
+    ≡ Some (Write (place_of_word start.destination i) Word (slice_index values 0))
 transfer_access-odd start values i within odd = rw odd (grind (arith, nat_tests))
 
 -- a start is under way, and the transfer is of it

@@ -1,6 +1,7 @@
 -- The byte of a memory at a place.
 use Rattle.std.{proofs.Common.{◌≡◌, ◌+◌, ◌-◌, ℕ, suc, zero, Bool, true, false, List, Some, None, cond, refl, arith, ◌∙◌, Option, ap, sym}, specs.Prelude.{◌&&◌, ◌||◌, nat_le, slice_get}}
-use Rattle.part_definitions.specs.Memory.{PowerOn, ShownFlags, MemoryWrite, byte_at, bytes_from, is_ram, is_program, is_image_place}
+use Rattle.device_types.specs.Map.{lies_in, ram_region}
+use Rattle.part_definitions.specs.Memory.{PowerOn, ShownFlags, MemoryWrite, byte_at, bytes_from, is_program, is_image_place}
 use Rattle.hex_loader.specs.MemoryImage.{image_of}
 use Rattle.hex_loader.proofs.places.MemoryPlaces.byte.Goals as goal
 
@@ -21,13 +22,13 @@ choice false byte h = absurd cc
 -- the span of one place is the byte there
 span-one : (start : PowerOn) (flags : ShownFlags) (writes : List MemoryWrite) (place : ℕ)
     (bytes : List ℕ)
-    → (nat_le place place && ((is_ram place && is_ram place) ||
+    → (nat_le place place && ((lies_in ram_region place && lies_in ram_region place) ||
     (is_program place && is_program place))) ≡ true
     → bytes ≡ bytes_from (byte_at start flags writes) place (place + 1 - place)
     → slice_get bytes 0 ≡ image_of start flags writes place
 span-one start flags writes place bytes within is =
     let one : place + 1 - place ≡ suc zero = omega arith in
-    let holds = either (nat_le place place) (is_ram place) (is_program place) within in
+    let holds = either (nat_le place place) (lies_in ram_region place) (is_program place) within in
     rw (is, one) (choice (is_image_place place) (byte_at start flags writes place) holds)
 
 pub returns : goal.returns
