@@ -7,12 +7,12 @@ use hmac_core::Digest32;
 use std::alloc::Global;
 
 // Of as many far copies each second one is dropped.
-const MOST_FAR: usize = 64;
+const MOST_FAR: usize = 32;
 
 // Of more near ones the oldest is dropped.
 const MOST_NEAR: usize = 8;
 
-// The steps between far copies at first, so that 64 are left in 10,000,000 steps.
+// The steps between far copies at first, so that nearly all of these are left in 10,000,000 steps.
 const FIRST_SPACING: u64 = 5_000;
 
 /// Copies of a device that were left on its way, at boundaries, so that going back does not begin
