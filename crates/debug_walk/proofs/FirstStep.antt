@@ -5,7 +5,7 @@ use Rattle.device_types.specs.{declared.{access.Access.Access, kind.Kind.{Kind, 
 use Rattle.part_definitions.specs.TrustedFlag.{aux, clears_aux}
 use Rattle.device_trace.specs.{Blank.blank_seen, Logs.{logged_bounds, power_on_logs, progress_after, with_events, with_record}, Progress.{Held, stands_at_boundary}, Signals.signals_at, Step.{next_record, record_of}, Trace.logs_after}
 use Rattle.debug_session.{specs.{Watched.{data_access, flag_access, hits_by, made_access}, declared.{watch.{Hit.Hit, Watch.Watch}, command.Way.TheVariants.{Ahead, Back}}, Cause.{behind, hit_on, hits}, Place.{Run, aux_at, differs, exec_at, logs_at, sight_at, step_at, step_sight, view_of}, Sight.{Sight, StepSight}}, proofs.Views.next-at}
-use Rattle.debug_walk.specs.{Copies.played_run, Walk.IsStretch, declared.{run.Run.Run as GivenRun, stretch.Stretch.Stretch}}
+use Rattle.debug_walk.{specs.{Copies.played_run, Walk.IsStretch, declared.{run.Run.Run as GivenRun, stretch.Stretch.Stretch}}, proofs.Places.first-kind}
 
 -- a boot starts no run
 not-started : (now : SeenRecord) → now.entry.kind ≡ Boot → starts_run now ≡ false
@@ -32,17 +32,13 @@ seen-first run =
     }
 
 module _ (run : Run) where
-  first-kind : (step_at run 0).kind ≡ Boot
-  unfolding step_at next_record record_of signals_at with_events logs_at logs_after
-  first-kind = refl
-
   exec-first : exec_at run 0 ≡ false
   unfolding exec logs_at logs_after
   exec-first = refl
 
   exec-next : exec_at run 1 ≡ false
   unfolding exec logs_at logs_after with_record with_events step_at
-  exec-next = not-set clears (seen-first run) first-kind
+  exec-next = not-set clears (seen-first run) (first-kind run)
 
   refused-first : (rule : Option Rule) (kind : Kind) (cpu : Option Access) (value : ℕ)
       → kind ≡ Boot → stands_at_boundary (progress_after rule kind Held cpu value) ≡ false
@@ -54,7 +50,7 @@ module _ (run : Run) where
   unfolding sight_at logs_at logs_after with_record with_events step_at
   is-refused none =
       refused-first (step_at run 0).reset (step_at run 0).kind (step_at run 0).cpu
-      (step_at run 0).value first-kind none
+      (step_at run 0).value (first-kind run) none
 
 aux-first : {D : Type 0} (hash : Hash D) (given : GivenRun)
     → aux_at (played_run hash given) 0 ≡ false

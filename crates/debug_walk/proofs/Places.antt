@@ -1,7 +1,7 @@
 -- The step at a place, and where it leads.
 use Rattle.std.{proofs.{Common.{◌≡◌, ℕ, suc, length, refl, ◌<◌, ◌∙◌, true, None, ap}, lemmas.Bool.{cond-true, lt-ltb}}, specs.Prelude.nat_lt}
-use Rattle.device_types.specs.declared.bus_record.BusRecord.{BusRecord}
-use Rattle.device_trace.specs.{Progress.{level_after, Held, access_of, kind_of, progress_within}, Logs.{Logs, progress_after, vector_of, with_events, with_record}, Signals.signals_at, Step.{access_recorded, next_record, record_of}, Trace.{logs_after, trace}}
+use Rattle.device_types.specs.declared.{bus_record.BusRecord.BusRecord, kind.Kind.TheVariants.Boot}
+use Rattle.device_trace.specs.{Progress.{level_after, access_of, kind_of, progress_within}, Logs.{Logs, progress_after, vector_of, with_events, with_record}, Signals.signals_at, Step.{access_recorded, next_record, record_of}, Trace.{logs_after, trace}}
 use Rattle.debug_session.specs.{Place.{Run, logs_at, step_at, no_step, play_to, sight_at, step_sight}, Request.most_steps, Sight.StepSight}
 use Rattle.device_core.{specs.Silence.is_silent, proofs.Idle.silent-parts}
 use Rattle.device_play.proofs.GoesOn.{silent-lines}
@@ -42,10 +42,10 @@ pub step-level : (run : Run) (place : ℕ)
 unfolding step_at logs_at logs_after with_record with_events
 step-level run place = refl
 
--- at first the device is held
-pub held-first : (run : Run) → (logs_at run 0).progress ≡ Held
-unfolding logs_at logs_after
-held-first run = refl
+-- at first comes a boot
+pub first-kind : (run : Run) → (step_at run 0).kind ≡ Boot
+unfolding step_at next_record record_of signals_at with_events logs_at logs_after
+first-kind run = refl
 
 -- Steps that nobody is told of.
 

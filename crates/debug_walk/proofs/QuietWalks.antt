@@ -1,13 +1,13 @@
 -- A walk that makes a row of steps.
-use Rattle.std.{proofs.{Common.{◌≡◌, ◌<◌, ◌≤◌, ◌+◌, ◌-◌, ◌∙◌, ◌⊎◌, ⊎_elim, inl, inr, ℕ, zero, suc, Bool, true, false, List, [], ◌∷◌, ◌++◌, Option, None, Some, length, refl, ap, sym, subst, arith}, lemmas.{Bool.{cond_both, eqb-true, Decides.nat_tests}, List.length_push}}, specs.Prelude.{◌==◌, ◌&&◌, ◌||◌, is_some, nat_le, nat_lt, if◌then◌else◌}}
+use Rattle.std.{proofs.{Common.{◌≡◌, ◌<◌, ◌≤◌, ◌+◌, ◌-◌, ◌∙◌, ◌⊎◌, ⊎_elim, inl, inr, ℕ, zero, suc, Bool, true, false, List, [], ◌∷◌, ◌++◌, Option, None, Some, length, refl, ap, sym, subst, arith}, lemmas.{Bool.{cond_both, eqb-false, eqb-true, or_parts, Decides.nat_tests}, List.length_push}}, specs.Prelude.{◌==◌, ◌&&◌, ◌||◌, is_some}}
 use Rattle.device_types.specs.TraceFlag.{Flag}
 use Rattle.hmac_core.specs.Hash.{Hash}
 use Rattle.trace_facts.proofs.ExecFlag.{none_there}
 use Rattle.play_script.specs.declared.playback.Playback.{Playback}
 use Rattle.device_core.specs.{Device.{machine_of, steps_made}, Quiet.Question, declared.live.Live.Live}
 use Rattle.device_play.specs.Midway.{HasGoneOn}
-use Rattle.debug_session.{specs.{Request.most_steps, declared.{command.Way.TheVariants.Ahead, watch.{Hit.Hit, Watch.Watch}}, Cause.{behind, hit_on, hits, is_broken_at, is_due}, Place.{Run, aux_at, exec_at, sight_at, view_of}, Sight.Sight, Stops.Stops, Watched.first_hit}, proofs.Views.view-at}
-use Rattle.debug_walk.{specs.{Passing.{ArePassed, AreSilent, IsCapped, IsPassed, goes_over}, Stretch.{has_cause, stretch_from, stretch_of_last}, Walk.{TellsCause, stretch_behind, stretch_there}, declared.stretch.Stretch.Stretch}, proofs.{QuietPlaces.{GoesBy, SleepsOn, flags-next, goes-by, none-first, unbroken-at}, StretchSteps.{KeepsBehind, behind-few, hits-with, kept_behind, keeps-none}, TellsSteps.{KeepsTelling, tells-over, tells-past, tells-there}}}
+use Rattle.debug_session.{specs.{Request.most_steps, declared.{command.Way.TheVariants.Ahead, watch.Hit.Hit}, Cause.{behind, hit_on, hits, is_broken_at, is_due}, Place.{Run, aux_at, exec_at, sight_at, step_sight, view_of}, Sight.{Sight, StepSight}, Stops.Stops, Watched.first_hit}, proofs.Views.next-at}
+use Rattle.debug_walk.{specs.{Passing.{ArePassed, AreSilent, IsCapped, IsPassed, goes_over}, Stretch.{has_cause, stretch_from, stretch_of_last}, Walk.{TellsCause, stretch_behind, stretch_past, stretch_there, IsStretch}, declared.stretch.Stretch.Stretch}, proofs.{QuietPlaces.{GoesBy, flags-next, goes-by, unbroken-at}, StretchSteps.{behind-few, hits-with, kept_behind, stretch-next}, TellsSteps.{KeepsTelling, begin_at, stretch-asleep, tells-over, tells-past, tells-there}}}
 
 -- from a place on, from each place to the next
 module _ (Holds : ℕ → Type 0) (place end : ℕ) (first : Holds place)
@@ -31,57 +31,46 @@ first-of-none : (made : List Hit) → first_hit made ≡ None → made ≡ []
 first-of-none [] none = refl
 first-of-none (hit ∷ made) none = absurd (cc (none))
 
-none-of-kept : (watches : List Watch) (boundary : Bool) (sights : List Sight)
-    → hits watches sights ≡ [] → hits watches (if boundary then [] else sights) ≡ []
-none-of-kept watches true sights none = refl
-none-of-kept watches false sights none = none
-
--- where a stretch begins that ends at a place
-abbrev begin_at : Run → ℕ → ℕ
-begin_at run place = place - length (behind (view_of run) place)
-
-later-kept : (boundary : Bool) (sights : List Sight)
-    → length (if boundary then [] else sights) ≤ length sights
-later-kept true sights = omega arith
-later-kept false sights = omega arith
-
-kept-few : (run : Run) (place : ℕ) → length (kept_behind run place) ≤ place
-kept-few run place =
-    omega (
-      arith,
-      later-kept (view_of run place).boundary (behind (view_of run) place),
-      behind-few run place,
-    )
-
 begin-later : (run : Run) (place : ℕ) → begin_at run place ≤ begin_at run (suc place)
 begin-later run place =
-    omega (
-      arith,
-      later-kept (view_of run place).boundary (behind (view_of run) place),
-      length_push (kept_behind run place) (view_of run place),
-      behind-few run place,
-    )
+    cond_both (view_of run place).boundary [] (behind (view_of run) place)
+    (λ kept. begin_at run place ≤ suc place - length (kept ++ view_of run place ∷ []))
+    (λ here. omega (arith, behind-few run place))
+    (λ none. omega (arith, length_push (behind (view_of run) place) (view_of run place)))
 
-begin-next : (run : Run) (place : ℕ)
-    → place - length (kept_behind run place) ≡ begin_at run (suc place)
-begin-next run place =
-    omega (arith, length_push (kept_behind run place) (view_of run place), kept-few run place)
+-- A number of steps that a row does not go past, from where a stretch begins.
 
--- a number of steps that a row does not go past
-unreached : (number begin place : ℕ)
-    → (place < number) ⊎ (number ≤ begin) → (nat_lt begin number && nat_le number place) ≡ false
-unreached number begin place (inl before) = grind (arith, nat_tests, before)
-unreached number begin place (inr reached) = grind (arith, nat_tests, reached)
+capped-later : (until : Option ℕ) (begin later limit : ℕ)
+    → begin ≤ later → IsCapped until begin limit → IsCapped until later limit
+capped-later None begin later limit less capped = tt
+capped-later (Some number) begin later limit less (inl reached) = inl (omega (arith, reached, less))
+capped-later (Some number) begin later limit less (inr within) = inr within
 
-reached-alike : (number begin other place : ℕ)
-    → place ≤ number → begin < place → other < place
-    → (nat_lt begin number && nat_le number place) ≡ (nat_lt other number && nat_le number place)
-reached-alike number begin other place capped earlier before =
-    grind (arith, nat_tests, capped, earlier, before)
+-- it is not reached in the row, and at its end it is whichever stretch is meant
+undue : (until : Option ℕ) (begin place limit : ℕ)
+    → IsCapped until begin limit → place < limit → is_due until begin place ≡ false
+undue None begin place limit capped before = refl
+undue (Some number) begin place limit (inl reached) before = grind (arith, nat_tests, reached)
+undue (Some number) begin place limit (inr within) before =
+    grind (arith, nat_tests, within, before)
 
-reached-before : (number begin place : ℕ)
-    → number ≤ place → (nat_lt begin number && nat_le number place) ≡ false → number ≤ begin
-reached-before number begin place past none = grind (arith, nat_tests, past, none)
+due-alike : (until : Option ℕ) (one other place limit : ℕ)
+    → IsCapped until one limit → IsCapped until other limit
+    → one < place → other < place → place ≤ limit
+    → is_due until one place ≡ is_due until other place
+due-alike None one other place limit capped also earlier before ends = refl
+due-alike (Some number) one other place limit capped also earlier before ends =
+    grind (arith, nat_tests, capped, also, earlier, before, ends)
+
+-- one that was reached before, and was not due, was reached before each stretch
+begin-capped : (until : Option ℕ) (one other place limit : ℕ)
+    → IsCapped until place limit → is_due until one place ≡ false
+    → is_due until one (suc place) ≡ is_due until other (suc place)
+    → IsCapped until other limit
+begin-capped None one other place limit capped none due = tt
+begin-capped (Some number) one other place limit (inr within) none due = inr within
+begin-capped (Some number) one other place limit (inl reached) none due =
+    inl (grind (arith, nat_tests, reached, none, due))
 
 plain-by : (boundary broken due : Bool)
     → (boundary ≡ true → broken ≡ false) → due ≡ false
@@ -89,224 +78,12 @@ plain-by : (boundary broken due : Bool)
 plain-by true broken due unbroken undue = rw (unbroken refl, undue) refl
 plain-by false broken due unbroken undue = refl
 
--- a row from a place up to an end, and what is kept at that place
-module _ (stops : Stops) (asleep : Bool) (run : Run) (place end : ℕ) (was : Stretch)
-    (keeps : KeepsTelling stops asleep run place (stretch_there run place was))
-    (some : place < end) (within : end ≤ most_steps) (capped : IsCapped stops.until place end)
-    (one : (has_cause (stretch_there run place was) stops.until place ≡ false) ⊎ (end ≡ place + 1))
-    (goes : (at : ℕ) → place ≤ at → at + 1 < end → GoesBy stops asleep run at)
-    (unbroken : (at : ℕ) → place < at → at < end → (sight_at run at).boundary ≡ true
-    → is_broken_at stops (sight_at run at) ≡ false)
-  where
-    abbrev begun : Stretch
-    begun = stretch_there run place was
-
-    -- there was no cause yet
-    abbrev NoCause : Type 0
-    NoCause = has_cause begun stops.until place ≡ false
-
-    no-parts : NoCause
-        → (is_some begun.first_hit ≡ false) × (is_due stops.until begun.place place ≡ false)
-    no-parts none =
-        none-first (is_some begun.first_hit) (is_due stops.until begun.place place) none
-
-    view-there : (at : ℕ) → at < end → view_of run at ≡ sight_at run at
-    view-there at before = view-at run at (omega (arith, before, within))
-
-    -- where more than one step is made, there was none
-    no-cause : (at : ℕ) → place ≤ at → at + 1 < end → NoCause
-    no-cause at from before =
-        ⊎_elim (λ (none : NoCause). none)
-        (λ (alone : end ≡ place + 1). absurd (omega (arith, alone, from, before))) one
-
-    none-next : (at : ℕ) → place ≤ at → suc at < end
-        → hits stops.watches (kept_behind run at) ≡ []
-        → hits stops.watches (behind (view_of run) (suc at)) ≡ []
-    none-next at from before none =
-        let here : Sight = view_of run at in
-        let unhit : here.next.hits stops.watches ≡ [] =
-        ap (λ (sight : Sight). sight.next.hits stops.watches)
-        (view-there at (omega (arith, before)))
-        ∙ (goes at from (omega (arith, before))).unhit in
-        let more : hits stops.watches (kept_behind run at) ++ here.next.hits stops.watches ≡ [] =
-        rw (none, unhit) refl in
-        hits-with stops.watches (kept_behind run at) here ∙ more
-
-    none-kept : NoCause → (at : ℕ) → place ≤ at → at < end
-        → hits stops.watches (kept_behind run at) ≡ []
-    none-kept none = along
-        (λ (at : ℕ). hits stops.watches (kept_behind run at) ≡ []) place end
-        (first-of-none (hits stops.watches (kept_behind run place))
-        (sym keeps.first ∙ none_there begun.first_hit (no-parts none).0))
-        (λ at from before nothing.
-        none-of-kept stops.watches (view_of run (suc at)).boundary
-        (behind (view_of run) (suc at)) (none-next at from before nothing))
-
-    begins-later : (at : ℕ) → place ≤ at → at < end
-        → begin_at run (suc place) ≤ begin_at run (suc at)
-    begins-later = along
-        (λ (at : ℕ). begin_at run (suc place) ≤ begin_at run (suc at)) place end (omega arith)
-        (λ at from before earlier. omega (arith, earlier, begin-later run (suc at)))
-
-    -- a number that was reached before the row was reached before each stretch in it
-    reached-at : NoCause → (number : ℕ) → stops.until ≡ Some number
-        → number ≤ place → (at : ℕ) → place ≤ at → at < end → number ≤ begin_at run (suc at)
-    reached-at none number asked reached at from before =
-        let undue : (nat_lt begun.place number && nat_le number place) ≡ false =
-        rw asked at (no-parts none).1 in
-        let earlier : number ≤ begun.place =
-        reached-before number begun.place place reached undue in
-        let due : (nat_lt begun.place number && nat_le number (suc place))
-        ≡ (nat_lt (place - length (kept_behind run place)) number && nat_le number (suc place)) =
-        rw asked at keeps.due in
-        let first : number ≤ place - length (kept_behind run place) =
-        reached-before number (place - length (kept_behind run place)) (suc place)
-        (omega (arith, reached))
-        (sym due ∙ unreached number begun.place (suc place) (inr earlier)) in
-        omega (arith, first, begin-next run place, begins-later at from before)
-
-    undue-by : NoCause → (until : Option ℕ) → stops.until ≡ until
-        → (at : ℕ) → place ≤ at → suc at < end
-        → is_due until (begin_at run (suc at)) (suc at) ≡ false
-    undue-by none None asked at from before = refl
-    undue-by none (Some number) asked at from before =
-        unreached number (begin_at run (suc at)) (suc at)
-        (⊎_elim
-        (λ (reached : number ≤ place).
-        inr (reached-at none number asked reached at from (omega (arith, before))))
-        (λ (less : end ≤ number). inl (omega (arith, less, before)))
-        (rw asked at capped))
-
-    passed-next : (at : ℕ) → place ≤ at → suc at < end → IsPassed stops asleep run (suc at)
-    passed-next at from before =
-        let none : NoCause = no-cause at from (omega (arith, before)) in
-        let there : Sight = sight_at run (suc at) in
-        record {
-          met = none-next at from before (none-kept none at from (omega (arith, before)));
-          plain = plain-by there.boundary (is_broken_at stops there)
-              (is_due stops.until (begin_at run (suc at)) (suc at))
-              (unbroken (suc at) (omega (arith, from)) before)
-              (undue-by none stops.until refl at from before);
-          slept = λ sleeps earlier same.
-              let is : at ≡ earlier = omega (arith, same) in
-              rw is at ((goes at from (omega (arith, before))).sleeps sleeps).sleeps;
-        }
-
-    pub are-passed : ArePassed stops asleep run place end
-    are-passed = λ at from before.
-        let same : suc (at - 1) ≡ at = omega (arith, from) in
-        subst (IsPassed stops asleep run) same
-        (passed-next (at - 1) (omega (arith, from)) (omega (arith, from, before)))
-
-    -- the last step
-    module _ (last : ℕ) (ends : end ≡ suc last) where
-      later : place ≤ last
-      later = omega (arith, some, ends)
-
-      due-by : place < last → (until : Option ℕ) → stops.until ≡ until
-          → is_due until last (suc last)
-          ≡ is_due until (last - length (kept_behind run last)) (suc last)
-      due-by more None asked = refl
-      due-by more (Some number) asked =
-          let none : NoCause =
-          no-cause place (omega arith) (omega (arith, more, ends)) in
-          ⊎_elim
-          (λ (reached : number ≤ place).
-          unreached number last (suc last) (inr (omega (arith, reached, more)))
-          ∙ sym (unreached number (last - length (kept_behind run last)) (suc last)
-          (inr (omega (
-            arith,
-            begin-next run last,
-            reached-at none number asked reached last later (omega (arith, ends)),
-          )))))
-          (λ (less : end ≤ number).
-          reached-alike number last (last - length (kept_behind run last)) (suc last)
-          (omega (arith, less, ends)) (omega arith) (omega arith))
-          (rw asked at capped)
-
-      sleeps-by : asleep ≡ true → (at : ℕ) → place ≤ at → suc at < end → SleepsOn run at
-      sleeps-by sleeps at from before = (goes at from (omega (arith, before))).sleeps sleeps
-
-      level-by : asleep ≡ true → (at : ℕ) → place ≤ at → at < end
-          → (sight_at run at).level ≡ (sight_at run place).level
-      level-by sleeps = along
-          (λ (at : ℕ). (sight_at run at).level ≡ (sight_at run place).level) place end refl
-          (λ at from before same. (sleeps-by sleeps at from before).level ∙ same)
-
-      level-there : (sight_at run place).boundary ≡ true
-          → begun.level ≡ (sight_at run place).level
-      level-there here =
-          rw here refl
-
-      keeps-asleep : place < last → asleep ≡ true
-          → KeepsBehind stops.watches run last (stretch_from last begun.level)
-      keeps-asleep more sleeps =
-          let view : view_of run last ≡ sight_at run last =
-          view-there last (omega (arith, ends)) in
-          let slept : SleepsOn run (last - 1) =
-          sleeps-by sleeps (last - 1) (omega (arith, more)) (omega (arith, more, ends)) in
-          let same : suc (last - 1) ≡ last = omega (arith, more) in
-          let here : (view_of run last).boundary ≡ true =
-          rw view (rw same at slept.sleeps.to) in
-          let first : SleepsOn run place =
-          sleeps-by sleeps place (omega arith) (omega (arith, more, ends)) in
-          let level : (view_of run last).level ≡ begun.level =
-          rw view (level-by sleeps last later (omega (arith, ends))
-          ∙ sym (level-there first.sleeps.from)) in
-          rw level at (keeps-none stops.watches run last here)
-
-      keeps-later : place < last
-          → KeepsTelling stops asleep run last (stretch_from last begun.level)
-      keeps-later more =
-          let none : NoCause =
-          no-cause place (omega arith) (omega (arith, more, ends)) in
-          record {
-            begun = inr (omega arith);
-            few = kept-few run last;
-            first = sym (ap (hit_on Ahead) (none-kept none last later (omega (arith, ends))));
-            due = due-by more stops.until refl;
-            exact = λ sleeps. keeps-asleep more sleeps;
-          }
-
-      of-last : (Holds : Stretch → Type 0) → (last ≡ place → Holds begun)
-          → (place < last → Holds (stretch_from last begun.level))
-          → Holds (stretch_of_last begun place last)
-      of-last Holds alone behind_others =
-          cond_both (last == place) begun (stretch_from last begun.level) Holds
-          (λ same. alone (eqb-true last place same))
-          (λ other. behind_others (less other))
-        where
-          less : (last == place) ≡ false → place < last
-          less other = grind (arith, nat_tests, other, later)
-
-      keeps-last : KeepsTelling stops asleep run last (stretch_of_last begun place last)
-      keeps-last =
-          of-last (KeepsTelling stops asleep run last)
-          (λ same. subst (λ (at : ℕ). KeepsTelling stops asleep run at begun) (sym same) keeps)
-          keeps-later
-
-      unbooted : GoesBy stops asleep run last → asleep ≡ true
-          → (stretch_of_last begun place last).boots ≡ false
-      unbooted by sleeps =
-          of-last (λ (stretch : Stretch). stretch.boots ≡ false)
-          (λ same. rw (rw same at (by.sleeps sleeps).sleeps.from) refl)
-          (λ more. refl)
-
-      tells-last : (kept : Bool) → (kept ≡ false → GoesBy stops asleep run last)
-          → TellsCause stops asleep run (suc last)
-          (stretch_behind stops.watches run place begun last kept)
-      tells-last true by =
-          tells-past stops asleep run last (stretch_of_last begun place last)
-          (omega (arith, ends, within)) keeps-last
-      tells-last false by =
-          tells-over stops asleep run last (stretch_of_last begun place last)
-          (omega (arith, ends, within)) keeps-last (by refl) (unbooted (by refl))
-
-capped-earlier : (until : Option ℕ) (place limit end : ℕ)
-    → end ≤ limit → IsCapped until place limit → IsCapped until place end
-capped-earlier None place limit end fewer capped = tt
-capped-earlier (Some number) place limit end fewer (inl reached) = inl reached
-capped-earlier (Some number) place limit end fewer (inr less) = inr (omega (arith, fewer, less))
+-- what holds within a row of more than one step: nothing is hit since the last boundary
+record IsUnmet (stops : Stops) (asleep : Bool) (run : Run) (level limit place : ℕ) : Type 0 where
+  unhit : hits stops.watches (kept_behind run place) ≡ []
+  capped : IsCapped stops.until (begin_at run (suc place)) limit
+  sleeps : asleep ≡ true
+      → ((sight_at run place).boundary ≡ true) × ((sight_at run place).level ≡ level)
 
 module _ {D G : Type 0} {hash : Hash D} {flag : Flag G} {every_step : Bool} (run : Run)
     (place : ℕ) (live : Live D G) (playback : Playback)
@@ -352,35 +129,151 @@ module _ {D G : Type 0} {hash : Hash D} {flag : Flag G} {every_step : Bool} (run
             (one : (has_cause (stretch_there run place was) stops.until place ≡ false)
             ⊎ (limit ≡ place + 1))
           where
-            keeps : KeepsTelling stops asleep run place (stretch_there run place was)
-            keeps = tells-there stops asleep run place (omega (arith, some, within)) was known
+            abbrev begun : Stretch
+            begun = stretch_there run place was
 
-            one-step : (has_cause (stretch_there run place was) stops.until place ≡ false)
-                ⊎ (steps_made live ≡ place + 1)
-            one-step =
-                ⊎_elim (λ none. inl none)
-                (λ (alone : limit ≡ place + 1). inr (omega (arith, alone, some, limited))) one
+            keeps : KeepsTelling stops asleep run place begun
+            keeps = tells-there stops asleep run place was (omega (arith, some, within)) known
 
-            unbroken-on : (at : ℕ) → place < at → at < steps_made live
-                → (sight_at run at).boundary ≡ true
-                → is_broken_at stops (sight_at run at) ≡ false
-            unbroken-on at from before here =
-                unbroken-at stops asleep run at (gone.between at from before) here
+            unmet-first : place + 1 < steps_made live
+                → IsUnmet stops asleep run begun.level limit place
+            unmet-first more =
+                let none : has_cause begun stops.until place ≡ false =
+                ⊎_elim (λ none. none)
+                (λ (alone : limit ≡ place + 1). absurd (omega (arith, alone, more, limited))) one in
+                let parts =
+                or_parts (is_some begun.first_hit) (is_due stops.until begun.place place) none in
+                record {
+                  unhit = first-of-none (hits stops.watches (kept_behind run place))
+                      (sym keeps.first ∙ none_there begun.first_hit parts.0);
+                  capped = begin-capped stops.until begun.place (begin_at run (suc place)) place
+                      limit capped parts.1 keeps.due;
+                  sleeps = λ sleeps.
+                      let here = ((goes-on place (omega arith) more).sleeps sleeps).sleeps.from in
+                      (here, rw here refl);
+                }
 
-            ends-capped : IsCapped stops.until place (steps_made live)
-            ends-capped =
-                capped-earlier stops.until place limit (steps_made live) limited capped
+            -- so nothing is hit up to the next place
+            unmet-behind : (at : ℕ) → place ≤ at → suc at < steps_made live
+                → IsUnmet stops asleep run begun.level limit at
+                → hits stops.watches (behind (view_of run) (suc at)) ≡ []
+            unfolding step_sight
+            unmet-behind at from before is =
+                let here : Sight = view_of run at in
+                let unhit : here.next.hits stops.watches ≡ [] =
+                ap (λ (step : StepSight). step.hits stops.watches)
+                (next-at run at (omega (arith, before, within)))
+                ∙ (goes-on at from (omega (arith, before))).unhit in
+                hits-with stops.watches (kept_behind run at) here ∙ rw (is.unhit, unhit) refl
+
+            unmet-next : (at : ℕ) → place ≤ at → suc at < steps_made live
+                → IsUnmet stops asleep run begun.level limit at
+                → IsUnmet stops asleep run begun.level limit (suc at)
+            unmet-next at from before is =
+                record {
+                  unhit = cond_both (view_of run (suc at)).boundary []
+                      (behind (view_of run) (suc at)) (λ kept. hits stops.watches kept ≡ [])
+                      (λ here. refl) (λ none. unmet-behind at from before is);
+                  capped = capped-later stops.until (begin_at run (suc at))
+                      (begin_at run (suc (suc at))) limit (begin-later run (suc at)) is.capped;
+                  sleeps = λ sleeps.
+                      let on = (goes-on at from (omega (arith, before))).sleeps sleeps in
+                      (on.sleeps.to, on.level ∙ (is.sleeps sleeps).1);
+                }
+
+            unmet : place + 1 < steps_made live → (at : ℕ) → place ≤ at → at < steps_made live
+                → IsUnmet stops asleep run begun.level limit at
+            unmet more =
+                along (IsUnmet stops asleep run begun.level limit) place (steps_made live)
+                (unmet-first more) unmet-next
+
+            passed-next : (at : ℕ) → place ≤ at → suc at < steps_made live
+                → IsPassed stops asleep run (suc at)
+            passed-next at from before =
+                let is = unmet (omega (arith, from, before)) at from (omega (arith, before)) in
+                let there : Sight = sight_at run (suc at) in
+                record {
+                  met = unmet-behind at from before is;
+                  plain = plain-by there.boundary (is_broken_at stops there)
+                      (is_due stops.until (begin_at run (suc at)) (suc at))
+                      (unbroken-at stops asleep run (suc at)
+                      (gone.between (suc at) (omega (arith, from)) before))
+                      (undue stops.until (begin_at run (suc at)) (suc at) limit is.capped
+                      (omega (arith, before, limited)));
+                  slept = λ sleeps earlier same.
+                      let is : at ≡ earlier = omega (arith, same) in
+                      rw is at
+                      ((goes-on at from (omega (arith, before))).sleeps sleeps).sleeps;
+                }
 
             pub row-passed : ArePassed stops asleep run place (steps_made live)
-            row-passed =
-                are-passed stops asleep run place (steps_made live) was keeps some within
-                ends-capped one-step goes-on unbroken-on
+            row-passed = λ at from before.
+                let same : suc (at - 1) ≡ at = omega (arith, from) in
+                subst (IsPassed stops asleep run) same
+                (passed-next (at - 1) (omega (arith, from)) (omega (arith, from, before)))
+
+            -- what is kept before the last step tells of the steps behind it; asleep it is what is
+            -- kept at a boundary
+            abbrev KeepsLast : ℕ → Stretch → Type 0
+            KeepsLast last stretch =
+                KeepsTelling stops asleep run last stretch
+                × (asleep ≡ true → stretch ≡ stretch_there run last was)
+
+            keeps-later : (last : ℕ) → steps_made live ≡ suc last → place < last
+                → KeepsLast last (stretch_from last begun.level)
+            keeps-later last ends more =
+                let is =
+                unmet (omega (arith, more, ends)) last (omega (arith, more)) (omega (arith, ends))
+                in
+                let there : asleep ≡ true
+                → stretch_there run last was ≡ stretch_from last begun.level =
+                λ sleeps. rw ((is.sleeps sleeps).0, (is.sleeps sleeps).1) refl in (
+                  record {
+                    begun = omega arith;
+                    first = sym (ap (hit_on Ahead) is.unhit);
+                    due = due-alike stops.until last (begin_at run (suc last)) (suc last) limit
+                        (capped-later stops.until place last limit (omega (arith, more)) capped)
+                        is.capped (omega arith)
+                        (omega (arith, length_push (kept_behind run last) (view_of run last)))
+                        (omega (arith, ends, limited));
+                    exact = λ sleeps.
+                        subst (λ (stretch : Stretch). IsStretch stops.watches run (suc last)
+                        (stretch_past stops.watches run last stretch)) (there sleeps)
+                        (stretch-next stops.watches run last (omega (arith, ends, within)) was
+                        (inl (is.sleeps sleeps).0));
+                  },
+                  λ sleeps. sym (there sleeps),
+                )
+
+            keeps-last : (last : ℕ) → steps_made live ≡ suc last
+                → KeepsLast last (stretch_of_last begun place last)
+            keeps-last last ends =
+                cond_both (last == place) begun (stretch_from last begun.level) (KeepsLast last)
+                (λ same.
+                subst (λ (at : ℕ). KeepsLast at begun) (sym (eqb-true last place same))
+                (keeps, λ sleeps. refl))
+                (λ other.
+                keeps-later last ends (omega (arith, eqb-false last place other, some, ends)))
+
+            tells-last : (last : ℕ) → steps_made live ≡ suc last → (kept : Bool)
+                → (kept ≡ false → GoesBy stops asleep run last)
+                → TellsCause stops asleep run (suc last)
+                (stretch_behind stops.watches run place begun last kept)
+            tells-last last ends true by =
+                tells-past stops asleep run last (stretch_of_last begun place last)
+                (omega (arith, ends, within)) (keeps-last last ends).0
+            tells-last last ends false by =
+                let before : last < most_steps = omega (arith, ends, within) in
+                let is = keeps-last last ends in
+                tells-over stops asleep run last (stretch_of_last begun place last) before is.0
+                (by refl)
+                (λ sleeps.
+                subst (IsStretch stops.watches run (suc last)) (sym (is.1 sleeps))
+                (stretch-asleep stops asleep run last was before (by refl) sleeps))
 
             pub row-tells : (last : ℕ) → steps_made live ≡ suc last
                 → TellsCause stops asleep run (suc last)
-                (stretch_behind stops.watches run place (stretch_there run place was) last
+                (stretch_behind stops.watches run place begun last
                 (is_some (machine_of live).bus.last))
             row-tells last ends =
-                tells-last stops asleep run place (steps_made live) was keeps some within
-                ends-capped one-step goes-on unbroken-on last ends
-                (is_some (machine_of live).bus.last) (goes-last last ends)
+                tells-last last ends (is_some (machine_of live).bus.last) (goes-last last ends)

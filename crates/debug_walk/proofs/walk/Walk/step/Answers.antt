@@ -1,5 +1,5 @@
 use Rattle.std.proofs.Common.{◌≡◌, ◌∙◌, suc, refl, subst, sym, add-one, arith}
-use Rattle.debug_walk.{specs.Walk.{IsStretch, place_of, seen_at, stretch_there}, proofs.{StretchSteps.stretch-step, TellsSteps.{seen-hits, keeps-there, kept-one}}}
+use Rattle.debug_walk.{specs.Walk.{IsStretch, place_of, stretch_there}, proofs.{StretchSteps.stretch-next, TellsSteps.kept-one}}
 use Rattle.debug_walk.proofs.walk.Walk.step.Goals as goal
 
 pub returns-clause-walks : goal.returns-clause-walks
@@ -13,11 +13,7 @@ returns-clause-stretch g c = λ run walks known.
     let after = c.make_row.result in
     let made = c.make_row.ensures in
     let ends : place_of after ≡ suc place = omega (arith, made.within, c.place-end.ensures) in
-    let is =
-    stretch-step watches run place (stretch_there run place walk.stretch) (seen_at run place)
-    c.requires.few
-    (keeps-there watches run place (omega (arith, c.requires.few)) walk.stretch known)
-    (seen-hits run place watches) in
+    let is = stretch-next watches run place c.requires.few walk.stretch known in
     subst (λ at. IsStretch watches run at after.stretch) (sym (add-one place))
     (subst (IsStretch watches run (suc place))
     (sym (made.stretch run walks place ends
