@@ -1,16 +1,12 @@
 -- A walk that stands where going back leads.
-use Rattle.std.{proofs.{Common.{◌≡◌, ◌≤◌, ◌<◌, inl, ℕ, true, Option, Some, None, refl, arith, Bool, false}, lemmas.Bool.{cond-true, eq-eqb}}, specs.Prelude.{◌&&◌, ◌||◌, ◌==◌}}
+use Rattle.std.{proofs.{Common.{◌≡◌, ◌≤◌, ◌<◌, ◌⊎◌, inl, inr, ℕ, true, Option, Some, None, refl, arith}, Math.Bool.or-true, lemmas.Bool.{cond-true, eq-eqb}}, specs.Prelude.{◌&&◌, ◌||◌, ◌==◌}}
 use Rattle.hmac_core.specs.Hash.{Hash}
 use Rattle.debug_session.{specs.{Request.most_steps, Cause.Step, Going.{Standing, interrupted, last_stop, lies_between}, Place.{Run, view_of}, Stops.Stops, declared.stop.Stop.{Stop, TheVariants.{Begin, Interrupted}}, Sight.View}, proofs.{Scans.last-none, Views.view-at, Between.is-between}}
 use Rattle.debug_link.specs.Conversation.{HaveCome, count_of}
-use Rattle.debug_walk.specs.{Copies.{IsAt, IsBegun}, Walk.place_of, declared.walk.Walk.Walk}
+use Rattle.debug_walk.specs.{Copies.{IsAt, IsBegun}, Walk.{IsFresh, place_of}, declared.walk.Walk.Walk}
 use Rattle.device_debug.{specs.{Ahead.IsLastBehind, Going.{HasArrived, StandsAt}}, proofs.{Ahead.at-boundary, Back.{NoneBehind, cause_back, found-last, found-none}}}
 
 -- Where an interrupt ends a way.
-
-or-true : (one other : Bool) → other ≡ true → (one || other) ≡ true
-or-true true other is = refl
-or-true false other is = is
 
 module _ (view : View) (from : ℕ) (now : Standing) where
   -- at a boundary on the way ahead
@@ -27,36 +23,24 @@ module _ (view : View) (from : ℕ) (now : Standing) where
   pub interrupted-here :
       interrupted view from (Some from) now ≡ record { place = from; stop = Interrupted }
   interrupted-here =
+      let begun : ((view from).boundary || (from == from)) ≡ true =
+      rw (eq-eqb from from refl) (or-true (view from).boundary) in
       cond-true (lies_between from now.place from && ((view from).boundary || (from == from)))
       (record { place = from; stop = Interrupted }) now
-      (λ i. is-between from now.place from (omega arith) (omega arith) i
-      && or-true (view from).boundary (from == from) (eq-eqb from from refl) i)
+      (λ i. is-between from now.place from (omega arith) (omega arith) i && begun i)
 
 module _ {D : Type 0} (hash : Hash D) (run : Run) where
-  arrives-first : (now : Standing) (walk : Walk D) → now ≡ record { place = 1; stop = Begin }
-      → IsBegun hash run walk → place_of walk ≡ 1 → HasArrived hash run now walk Begin
-  arrives-first now walk is begun place_is =
-      rw is (record {
-        stands = record {
-          walks = begun.walks;
-          place_is = place_is;
-          within = omega arith;
-          settled = inl begun.fresh;
-        };
-        stop_is = refl;
-      })
-
-  pub arrives-there : (now : Standing) (walk : Walk D) (place : ℕ) (stop : Stop)
-      → now ≡ record { place = place; stop = stop }
-      → IsAt hash run place walk → place ≤ most_steps → (view_of run place).boundary ≡ true
+  pub arrives-there : {now : Standing} {walk : Walk D} {place : ℕ} {stop : Stop}
+      → now ≡ record { place = place; stop = stop } → IsAt hash run place walk
+      → place ≤ most_steps → IsFresh run walk ⊎ (place ≡ most_steps)
       → HasArrived hash run now walk stop
-  arrives-there now walk place stop is at within here =
+  arrives-there is at within settled =
       rw is (record {
         stands = record {
           walks = at.walks;
           place_is = at.place_is;
           within = within;
-          settled = inl (inl (rw at.place_is (rw (view-at run place within) at here)));
+          settled = settled;
         };
         stop_is = refl;
       })
@@ -91,9 +75,9 @@ module _ {D : Type 0} (hash : Hash D) (run : Run) where
         → ArrivesBack walk Begin
     back-begun walk came few begun place_is =
         of-end walk Begin came
-        (arrives-first (last_stop (cause_back run stops step end) end) walk
-        (last-none (cause_back run stops step end) end
-        (λ at late before. absurd (omega (arith, late, before, few)))) begun place_is)
+        (arrives-there (last-none (cause_back run stops step end) end
+        (λ at late before. absurd (omega (arith, late, before, few))))
+        (record { walks = begun.walks; place_is = place_is }) (omega arith) (inl begun.fresh))
 
     -- none has a cause
     pub back-none : (walk : Walk D) (begin : ℕ) → HaveCome 0 left left_new → begin ≡ 0
@@ -101,9 +85,8 @@ module _ {D : Type 0} (hash : Hash D) (run : Run) where
         → ArrivesBack walk Begin
     back-none walk begin came none_left none begun place_is =
         of-end walk Begin came
-        (arrives-first (last_stop (cause_back run stops step end) end) walk
-        (found-none run stops step end
-        (rw none_left at none)) begun place_is)
+        (arrives-there (found-none run stops step end (rw none_left at none))
+        (record { walks = begun.walks; place_is = place_is }) (omega arith) (inl begun.fresh))
 
     -- the last with a cause
     pub back-found : (walk : Walk D) (begin last place : ℕ) (stop : Stop)
@@ -112,8 +95,9 @@ module _ {D : Type 0} (hash : Hash D) (run : Run) where
         → NoneBehind run stops step end last → IsAt hash run place walk
         → ArrivesBack walk stop
     back-found walk begin last place stop came within before piece none at =
+        let within_most : place ≤ most_steps = omega (arith, piece.1, before, within) in
+        let here : (view_of run place).boundary ≡ true =
+        at-boundary (view_of run place).boundary _ stop piece.2 in
         of-end walk stop came
-        (arrives-there (last_stop (cause_back run stops step end) end) walk place stop
-        (found-last run stops step end begin last (place, stop) before piece none) at
-        (omega (arith, piece.1, before, within))
-        (at-boundary (view_of run place).boundary _ stop piece.2))
+        (arrives-there (found-last run stops step end begin last (place, stop) before piece none) at
+        within_most (inl (inl (rw at.place_is (rw (view-at run place within_most) at here)))))

@@ -1,5 +1,5 @@
 -- What a walk looks at of a way, in pieces, is what going back looks for.
-use Rattle.std.{proofs.{Common.{◌≡◌, ◌≤◌, ◌<◌, ◌+◌, ◌-◌, ◌∙◌, ◌⊎◌, inl, inr, ⊎_elim, ℕ, suc, Bool, true, false, List, [], ◌∷◌, ◌++◌, Option, Some, None, length, refl, ap, sym, subst, arith, zero, is_some}, lemmas.Bool.{cases_lt, cond-true, cond-false, false≢true}}, specs.{Prelude.{◌&&◌, ◌||◌, IfSome, nat_le, not}, Option.option_or}}
+use Rattle.std.{proofs.{Common.{◌≡◌, ◌≤◌, ◌<◌, ◌+◌, ◌-◌, ◌∙◌, ◌⊎◌, inl, inr, ⊎_elim, ℕ, suc, Bool, true, false, List, [], ◌∷◌, ◌++◌, Option, Some, None, length, refl, ap, sym, arith, zero, is_some}, lemmas.Bool.{cases_lt, cond-true, cond-false, false≢true}}, specs.{Prelude.{◌&&◌, ◌||◌, IfSome, if◌then◌else◌, nat_le, not}, Option.option_or}}
 use Rattle.device_types.specs.{declared.{kind.Kind.{Kind, TheVariants.Idle}, rule.Rule.Rule}, Kind.{is_boot, is_cpu, is_rom}}
 use Rattle.part_definitions.specs.CpuRegister.{pc_of}
 use Rattle.debug_session.{specs.{Request.most_steps, declared.{command.Way.TheVariants.{Back, Ahead}, stop.Stop.{Stop, TheVariants.Begin}}, Stops.Stops, Watched.last_hit, Cause.{Step, ahead, begins_within, behind, boots, cause, hit_on, hits, is_plain, in_range, refusal, refusal_or, steps_over, stop_of, cause_here, is_broken_at, is_due}, Going.last_stop, Place.{Run, view_of, sight_at}, Sight.{Sight, View}}, proofs.{Scans.{last-at, last-none}, Stretches.{ahead-behind, HasBegin, has-begin}, Views.view-at}}
@@ -38,9 +38,7 @@ module _ (cause : ℕ → Option Stop) (begin : ℕ) where
       (past, omega arith, is, λ at after before. absurd (omega (arith, after, before)))
   covers-here here None found past is covers =
       covers-on here (suc here) found (omega arith)
-      (λ at after over before.
-      let same : here ≡ at = omega (arith, over, before) in
-      subst (λ (one : ℕ). cause one ≡ None) same is)
+      (λ at after over before. let same : at ≡ here = omega (arith, over, before) in rw same is)
       covers
 
   pub covers-all : (until last : ℕ) (found : Option (ℕ × Stop)) → last < until
@@ -55,14 +53,13 @@ module _ (cause : ℕ → Option Stop) (begin : ℕ) where
     λ at after within. covers.3 at after (omega (arith, within, past)),
   )
 
-  pub covers-none : Covers begin None
-  covers-none = λ at after before. absurd (omega (arith, after, before))
-
-pub early-or : (last here : ℕ) (stop : Option Stop) (found : Option (ℕ × Stop)) → here ≤ last
-    → IfSome found (λ one. one.0 ≤ last)
-    → IfSome (option_or (stop_with_place here stop) found) (λ one. one.0 ≤ last)
-early-or last here (Some stop) found within early = within
-early-or last here None found within early = early
+pub early-here : (last here : ℕ) (past : Bool) (stop : Option Stop) (found : Option (ℕ × Stop))
+    → here ≤ last → IfSome found (λ one. one.0 ≤ last)
+    → IfSome (if past then option_or (stop_with_place here stop) found else found)
+    (λ one. one.0 ≤ last)
+early-here last here true (Some stop) found within early = within
+early-here last here true None found within early = early
+early-here last here false stop found within early = early
 
 -- where the processor sleeps from a boundary to the next there is none
 none-of : (one other : Bool) → (one && false && other) ≡ false

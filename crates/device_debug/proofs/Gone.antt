@@ -67,12 +67,6 @@ module _ {D W : Type 0} (hash : Hash D) (w : SinkGhosts W) where
       (cause (view_of run) stops (record { way = way; last = last_of way place; step = step }))
       place))
 
-  -- where it goes to from there
-  abbrev pub aim : Debugger D → Way → Going → Option ℕ → Session → Standing
-  aim debugger way going interrupt session =
-      interrupted (view_in hash debugger) session.place interrupt
-      (where_to (view_in hash debugger) session.stops way going session.place)
-
   abbrev pub MayGo : Option ℕ → Option ℕ → PacketSink W → PacketSink W → Debugger D → Debugger D
       → Way → Going → Result Connection AnswerFault → Type 0
   MayGo left left_new old new debugger after way going result =
@@ -83,21 +77,30 @@ module _ {D W : Type 0} (hash : Hash D) (w : SinkGhosts W) where
       {stops : Stops} {step : Option Step} {going : Going}
       (leaves : Leaves debugger halted track stops step going) (way : Way)
     where
-      -- so it holds where its session stands
-      way-of : (session : Session) → DebuggerStandsFor hash debugger session
-          → (holds : Run → ℕ → Standing → Type 0)
-          → Goes left left_new halted track stops step way holds
-          → (interrupt : Option ℕ) × HaveCome (count_of interrupt) left left_new
-          × holds (run_at hash debugger) session.place (aim debugger way going interrupt session)
-      way-of session stands holds goes =
-          let run : Run = run_at hash debugger in
-          let here : StandsAt hash run session.place halted =
-          halted-here hash debugger session halted leaves.is stands in
-          let same : step ≡ step_of going (view_of run session.place).level =
-          rw (view-at run session.place here.within, ← here.place_is)
-          (leaves.step_is run here.walks) in
-          rw (leaves.stops_is ∙ stands.stops, same) at
-          (goes run session.place (rw leaves.track_is stands.track) here)
+      -- so it holds where its session stands, and this is answered there
+      goes-so : {after : Debugger D} {old new : PacketSink W}
+          {result : Result Connection AnswerFault} (holds : Run → ℕ → Standing → Type 0)
+          → after.track.run ≡ track.run → Goes left left_new halted track stops step way holds
+          → ((session : Session) (now : Standing) → DebuggerStandsFor hash debugger session
+          → Walks hash (run_at hash debugger) halted
+          → holds (run_at hash debugger) session.place now
+          → Answers (DebuggerStandsFor hash) w old new after
+          (stands_at session now (lines_to (view_in hash debugger) way session.place now)) result)
+          → MayGo left left_new old new debugger after way going result
+      goes-so holds same_run on answered =
+          record {
+            answers = λ session stands.
+                let run : Run = run_at hash debugger in
+                let here : StandsAt hash run session.place halted =
+                halted-here hash debugger session halted leaves.is stands in
+                let same : step ≡ step_of going (view_of run session.place).level =
+                rw (view-at run session.place here.within, ← here.place_is)
+                (leaves.step_is run here.walks) in
+                let one = rw (leaves.stops_is ∙ stands.stops, same) at
+                (on run session.place (rw leaves.track_is stands.track) here) in
+                (one.0, one.1, answered session _ stands here.walks one.2);
+            same_run = same_run ∙ ap (λ (one : Track D). one.run) leaves.track_is;
+          }
 
       -- it arrived, and the lines of its way were put
       pub went : (mid : Debugger D) {after : Debugger D} {old between new : PacketSink W}
@@ -113,29 +116,17 @@ module _ {D W : Type 0} (hash : Hash D) (w : SinkGhosts W) where
       went mid {after} {old} {between} {new} {end} {stop} {result} stops_are same_run after_run
           stays on there =
           let run : Run = run_at hash debugger in
-          let from : mid.track.run ≡ debugger.track.run =
-          same_run ∙ ap (λ (one : Track D). one.run) leaves.track_is in
-          let same : run ≡ run_at hash mid = ap (played_run hash) (sym from) in
-          record {
-            answers = λ session stands.
-                let one = way-of session stands (λ run place now. HasArrived hash run now end stop
-                × HasPut w old between (lines_to (view_of run) way place now)) on in
-                let now : Standing = aim debugger way going one.0 session in
-                let walks : Walks hash run halted =
-                (halted-here hash debugger session halted leaves.is stands).walks in (
-                  one.0,
-                  one.1,
-                  answered-behind (DebuggerStandsFor hash) w old between new after
-                      (stands_at session now [])
-                      (lines_to (view_of run) way session.place now) result one.2.1
-                      (there now session
-                      (subst (λ (one : Run). HasArrived hash one now end stop) same one.2.0)
-                      (subst (TrackStandsFor hash mid.track) same
-                      (stays run (rw leaves.track_is stands.track) walks))
-                      (stops_are ∙ leaves.stops_is ∙ stands.stops)),
-                );
-            same_run = after_run ∙ from;
-          }
+          let same : run ≡ run_at hash mid =
+          ap (played_run hash) (sym (same_run ∙ ap (λ (one : Track D). one.run) leaves.track_is)) in
+          goes-so (λ run place now. HasArrived hash run now end stop
+          × HasPut w old between (lines_to (view_of run) way place now))
+          (after_run ∙ same_run) on (λ session now stands walks held.
+          answered-behind (DebuggerStandsFor hash) w old between new after
+          (stands_at session now []) (lines_to (view_of run) way session.place now) result held.1
+          (there now session (subst (λ (one : Run). HasArrived hash one now end stop) same held.0)
+          (subst (TrackStandsFor hash mid.track) same
+          (stays run (rw leaves.track_is stands.track) walks))
+          (stops_are ∙ leaves.stops_is ∙ stands.stops)))
 
       -- it failed on its way
       pub failed-on : {after : Debugger D} {old new : PacketSink W}
@@ -146,19 +137,11 @@ module _ {D W : Type 0} (hash : Hash D) (w : SinkGhosts W) where
           (packets_of (lines_to (view_of run) way place now)))
           → MayGo left left_new old new debugger after way going result
       failed-on {after} {old} {new} {result} failed same_run on =
-          record {
-            answers = λ session stands.
-                let one = way-of session stands (λ run place now.
-                TakesPrefix w.stands old.sink new.sink
-                (packets_of (lines_to (view_of run) way place now))) on in
-                let now : Standing = aim debugger way going one.0 session in (
-                  one.0,
-                  one.1,
-                  failed-before (DebuggerStandsFor hash) w old new after (stands_at session now [])
-                      (lines_to (view_in hash debugger) way session.place now) result failed one.2,
-                );
-            same_run = same_run ∙ ap (λ (one : Track D). one.run) leaves.track_is;
-          }
+          goes-so (λ run place now. TakesPrefix w.stands old.sink new.sink
+          (packets_of (lines_to (view_of run) way place now)))
+          same_run on (λ session now stands walks held.
+          failed-before (DebuggerStandsFor hash) w old new after (stands_at session now [])
+          (lines_to (view_in hash debugger) way session.place now) result failed held)
 
   -- it told what a user asked for, after the request was kept
   abbrev pub TellsRequest : {V : Type 0} → PacketSink W → PacketSink W → Debugger D → Walk D
@@ -176,61 +159,53 @@ module _ {D W : Type 0} (hash : Hash D) (w : SinkGhosts W) where
       (session : Session) → DebuggerStandsFor hash debugger session
       → DebuggerStandsFor hash kept (after_request session request)
 
-  tells-here : {V : Type 0} (old new : PacketSink W) (debugger kept : Debugger D)
-      (halted : Walk D) (request : Request) (result : Result V AnswerFault) (session : Session)
-      → kept.track.run ≡ debugger.track.run → kept.halted ≡ Some halted
-      → DebuggerStandsFor hash kept (after_request session request)
-      → TellsRequest old new kept halted request result
-      → PutsPackets w old new
-      (console (request_text (view_in hash debugger) session.place request)) result
-  tells-here old new debugger kept halted request result session run_is is stands tells =
-      let there : Session = after_request session request in
-      let here : StandsAt hash (run_at hash kept) there.place halted =
-      halted-here hash kept there halted is stands in
-      let same : place_of halted ≡ session.place = here.place_is ∙ place-kept session request in
-      rw (run_is, same) at (tells (run_at hash kept) stands.track here.walks
-      (omega (arith, here.place_is, here.within)))
+  module _ {debugger kept : Debugger D} {halted : Walk D} (request : Request)
+      (run_is : kept.track.run ≡ debugger.track.run) (is : kept.halted ≡ Some halted)
+      (keeps : KeepsRequest debugger kept request)
+    where
+      tells-here : {V : Type 0} (old new : PacketSink W) (result : Result V AnswerFault)
+          (session : Session) → DebuggerStandsFor hash debugger session
+          → TellsRequest old new kept halted request result
+          → PutsPackets w old new
+          (console (request_text (view_in hash debugger) session.place request)) result
+      tells-here old new result session stands tells =
+          let there : Session = after_request session request in
+          let here : StandsAt hash (run_at hash kept) there.place halted =
+          halted-here hash kept there halted is (keeps session stands) in
+          let same : place_of halted ≡ session.place =
+          here.place_is ∙ place-kept session request in
+          rw (run_is, same) at (tells (run_at hash kept) (keeps session stands).track here.walks
+          (omega (arith, here.place_is, here.within)))
 
-  pub told-request : {V : Type 0} (old mid new : PacketSink W) (debugger kept : Debugger D)
-      (halted : Walk D) (request : Request) (value : V) (result : Result Connection AnswerFault)
-      → kept.track.run ≡ debugger.track.run → kept.halted ≡ Some halted
-      → KeepsRequest debugger kept request
-      → TellsRequest old mid kept halted request (Ok value)
-      → Gives hash w mid new kept kept (λ session. says session (codes "OK")) result
-      → Gives hash w old new debugger kept
-      (λ session. answer_to_request (view_in hash debugger) session request) result
-  told-request old mid new debugger kept halted request value result run_is is keeps tells gives =
-      record {
-        answers = λ session stands.
-            let there : Session = after_request session request in
-            answered-behind (DebuggerStandsFor hash) w old mid new kept
-            (says there (codes "OK"))
-            (console (request_text (view_in hash debugger) session.place request))
-            result
-            (tells-here old mid debugger kept halted request (Ok value) session run_is is
-            (keeps session stands) tells).all
-            (gives.answers there (keeps session stands));
-        same_run = run_is;
-      }
+      pub told-request : {V : Type 0} {old mid new : PacketSink W} (value : V)
+          {result : Result Connection AnswerFault}
+          → TellsRequest old mid kept halted request (Ok value)
+          → Gives hash w mid new kept kept (λ session. says session (codes "OK")) result
+          → Gives hash w old new debugger kept
+          (λ session. answer_to_request (view_in hash debugger) session request) result
+      told-request {old = old} {mid} {new} value {result} tells gives =
+          record {
+            answers = λ session stands.
+                let there : Session = after_request session request in
+                answered-behind (DebuggerStandsFor hash) w old mid new kept
+                (says there (codes "OK"))
+                (console (request_text (view_in hash debugger) session.place request)) result
+                (tells-here old mid (Ok value) session stands tells).all
+                (gives.answers there (keeps session stands));
+            same_run = run_is;
+          }
 
-  pub request-failed : {V : Type 0} (old new : PacketSink W) (debugger kept : Debugger D)
-      (halted : Walk D) (request : Request) (fault : AnswerFault)
-      (result : Result Connection AnswerFault)
-      → IsErr result
-      → kept.track.run ≡ debugger.track.run → kept.halted ≡ Some halted
-      → KeepsRequest debugger kept request
-      → TellsRequest {V = V} old new kept halted request (Err fault)
-      → Gives hash w old new debugger kept
-      (λ session. answer_to_request (view_in hash debugger) session request) result
-  request-failed {V} old new debugger kept halted request fault result failed run_is is keeps
-      tells =
-      record {
-        answers = λ session stands.
-            failed-before (DebuggerStandsFor hash) w old new kept
-            (says (after_request session request) (codes "OK"))
-            (console (request_text (view_in hash debugger) session.place request))
-            result failed
-            (tells-here {V = V} old new debugger kept halted request (Err fault) session run_is is
-            (keeps session stands) tells).prefix;
-        same_run = run_is;
-      }
+      pub request-failed : {V : Type 0} {old new : PacketSink W} (fault : AnswerFault)
+          {result : Result Connection AnswerFault} → IsErr result
+          → TellsRequest {V = V} old new kept halted request (Err fault)
+          → Gives hash w old new debugger kept
+          (λ session. answer_to_request (view_in hash debugger) session request) result
+      request-failed {V} {old} {new} fault {result} failed tells =
+          record {
+            answers = λ session stands.
+                failed-before (DebuggerStandsFor hash) w old new kept
+                (says (after_request session request) (codes "OK"))
+                (console (request_text (view_in hash debugger) session.place request)) result
+                failed (tells-here {V = V} old new (Err fault) session stands tells).prefix;
+            same_run = run_is;
+          }

@@ -1,16 +1,10 @@
 -- A walk that looks back at a piece of the way, from boundary to boundary.
-use Rattle.std.{proofs.{Common.{◌≡◌, ◌≤◌, ◌<◌, ◌+◌, ◌-◌, ◌∙◌, ◌⊎◌, inl, inr, ⊎_elim, ℕ, zero, suc, Bool, true, false, Option, None, length, refl, ap, sym, subst, arith}, lemmas.Bool.{cases_Bool, cases_lt, ltb-false, ltb-true}}, specs.{Prelude.{IfSome, nat_lt, if◌then◌else◌}, Option.option_or}}
+use Rattle.std.{proofs.{Common.{◌≡◌, ◌≤◌, ◌<◌, ◌+◌, ◌-◌, ◌∙◌, ◌⊎◌, inl, inr, ⊎_elim, ℕ, zero, suc, Bool, true, false, Option, None, length, refl, ap, sym, arith}, lemmas.Bool.{cases_Bool, cases_lt, ltb-false, ltb-true}}, specs.{Prelude.{IfSome, nat_lt, if◌then◌else◌}, Option.option_or}}
 use Rattle.hmac_core.specs.Hash.{Hash}
 use Rattle.part_definitions.specs.CpuRegister.{pc_of}
 use Rattle.debug_session.{specs.{Request.most_steps, Stops.Stops, declared.stop.Stop.Stop, Cause.{Step, behind, is_plain}, Place.{Run, sight_at, view_of}}, proofs.Views.view-at}
-use Rattle.debug_walk.specs.{Copies.{IsBefore, IsBegun}, Passing.{ArePassed, AreSilent, Sleeps}, Walk.{IsStretch, Walks, place_of}, declared.walk.Walk.Walk}
-use Rattle.device_debug.{specs.{Ahead.{IsLastBehind, stop_with_place}, Going.cause_before}, proofs.Back.{Covers, asleep-none, cause-behind, cause_back, covers-all, covers-here, covers-none, covers-on, early-or, no-boundary, plain-none, plain_at}}
-
-either-early : (last : ℕ) (past : Bool) (one other : Option (ℕ × Stop))
-    → IfSome one (λ is. is.0 ≤ last) → IfSome other (λ is. is.0 ≤ last)
-    → IfSome (if past then one else other) (λ is. is.0 ≤ last)
-either-early last true one other early late = early
-either-early last false one other early late = late
+use Rattle.debug_walk.specs.{Passing.{ArePassed, AreSilent, Sleeps}, Walk.{IsStretch, Walks, place_of}, declared.walk.Walk.Walk}
+use Rattle.device_debug.{specs.{Ahead.{IsLastBehind, stop_with_place}, Going.cause_before}, proofs.Back.{Covers, asleep-none, cause-behind, cause_back, covers-all, covers-here, covers-on, early-here, no-boundary, plain-none, plain_at}}
 
 module _ {D : Type 0} (hash : Hash D) (run : Run) (stops : Stops) (step : Option Step)
     (from begin last : ℕ)
@@ -38,40 +32,14 @@ module _ {D : Type 0} (hash : Hash D) (run : Run) (stops : Stops) (step : Option
       view-here : (place : ℕ) → place ≤ from → sight_at run place ≡ view_of run place
       view-here place early = sym (view-at run place (omega (arith, early, within)))
 
-      pub looks-first : (walk : Walk D) (place pc : ℕ) (broken : Bool) → begin ≡ place_of walk
-          → place ≡ place_of walk → IsBegun hash run walk → IsBefore last walk → last < from
-          → pc ≡ pc_of (sight_at run (place_of walk)).registers
-          → IsLookingBack walk place pc broken None
-      looks-first walk place pc broken begins place_is begun before late pc_is =
-          let same : place ≡ begin = omega (arith, begins, place_is) in
-          let early : place ≤ from = ⊎_elim
-          (λ (first : place_of walk ≡ 0). omega (arith, first, place_is))
-          (λ (less : place_of walk < last). omega (arith, less, place_is, late)) before in
-          record {
-            walks = begun.walks;
-            place_is = place_is;
-            within = early;
-            from_begin = omega (arith, same);
-            settled = λ past. absurd (omega (arith, past, same));
-            pc_is = λ less. rw (← view-here place early, place_is) pc_is;
-            broken_is = λ past. absurd (omega (arith, past, same));
-            fresh = λ less. rw place_is (⊎_elim
-                (λ (here : (sight_at run (place_of walk)).boundary ≡ true). inl here)
-                (λ kept. inr (kept stops.watches)) begun.fresh);
-            covers = covers-on cause_at begin begin place None (omega (arith, same))
-                (λ at past over until. absurd (omega (arith, past, until, same)))
-                (covers-none cause_at begin);
-            early = tt;
-          }
-
       -- what was found before, and at the boundary that it comes from
       abbrev pub found_by : ℕ → Option Stop → Option (ℕ × Stop) → Option (ℕ × Stop)
       found_by place stop found =
           if nat_lt begin place then option_or (stop_with_place place stop) found else found
 
       -- it left a place, asleep up to its last step, and went on to the next boundary
-      module _ (late : last < from) (walk left next : Walk D) (place pc place' pc' : ℕ)
-          (broken broken' : Bool) (found found' : Option (ℕ × Stop))
+      module _ (late : last < from) {walk : Walk D} (left next : Walk D) {place pc : ℕ}
+          {broken : Bool} {found found' : Option (ℕ × Stop)}
           (looks : IsLookingBack walk place pc broken found)
           (gone : (place_of walk < place_of left) × (place_of left ≤ last + 1))
           (alone : broken ≡ true → place_of left ≡ place_of walk + 1)
@@ -138,23 +106,6 @@ module _ {D : Type 0} (hash : Hash D) (run : Run) (stops : Stops) (step : Option
               (λ (is : broken ≡ true). absurd (omega (arith, alone is, less, looks.place_is)))
               (λ (none_is : broken ≡ false). none_is) (cases_Bool broken)
 
-          settled-there : begin < there → (view_of run there).boundary ≡ true
-          settled-there past =
-              ⊎_elim
-              (λ (less : place < there).
-              let before : ℕ = there - 1 in
-              let next_is : suc before ≡ there = omega (arith, less) in
-              rw (next_is, view-here there (omega (arith, bounds)))
-              at (slept before (omega (arith, less)) (omega (arith, less))).to)
-              (λ (over : there ≤ place).
-              let same : place ≡ there = omega (arith, over, bounds) in
-              subst (λ (at : ℕ). (view_of run at).boundary ≡ true) same
-              (⊎_elim
-              (λ (here : (view_of run place).boundary ≡ true). here)
-              (λ (all : place ≡ from). absurd (omega (arith, all, bounds, late)))
-              (looks.settled (omega (arith, past, same)))))
-              (cases_lt place there)
-
           plain-past : (at : ℕ) → place < at → at ≤ there → (view_of run at).boundary ≡ true
               → plain_at run stops step from at ≡ false
           plain-past at past before here =
@@ -168,15 +119,25 @@ module _ {D : Type 0} (hash : Hash D) (run : Run) (stops : Stops) (step : Option
           plain-here less past =
               sym (looks.broken_is past (omega (arith, less, bounds))) ∙ unbroken less
 
-          broken-there : begin < there → broken ≡ plain_at run stops step from there
-          broken-there past =
+          -- where the last stretch begins there is a boundary, and it is known whether it breaks
+          there-is : begin < there → ((view_of run there).boundary ≡ true)
+              × (broken ≡ plain_at run stops step from there)
+          there-is past =
               ⊎_elim
               (λ (less : place < there).
-              unbroken less ∙ sym (plain-past there less (omega arith) (settled-there past)))
+              let next_is : suc (there - 1) ≡ there = omega (arith, less) in
+              let settled : (view_of run there).boundary ≡ true =
+              rw (next_is, view-here there (omega (arith, bounds))) at
+              (slept (there - 1) (omega (arith, less)) (omega (arith, less))).to in
+              (settled, unbroken less ∙ sym (plain-past there less (omega arith) settled)))
               (λ (over : there ≤ place).
-              let same : place ≡ there = omega (arith, over, bounds) in
-              looks.broken_is (omega (arith, past, same)) (omega (arith, same, bounds))
-              ∙ ap (plain_at run stops step from) same)
+              let same : there ≡ place = omega (arith, over, bounds) in
+              rw same (
+                ⊎_elim (λ (here : (view_of run place).boundary ≡ true). here)
+                    (λ (all : place ≡ from). absurd (omega (arith, all, bounds, late)))
+                    (looks.settled (omega (arith, past, same))),
+                looks.broken_is (omega (arith, past, same)) (omega (arith, same, bounds)),
+              ))
               (cases_lt place there)
 
           none-slept : (at : ℕ) → begin < at → place ≤ at → at < there → cause_at at ≡ None
@@ -208,45 +169,32 @@ module _ {D : Type 0} (hash : Hash D) (run : Run) (stops : Stops) (step : Option
           abbrev stop_there : Option Stop
           stop_there = cause_before step next.stretch broken pc
 
-          cause-there : begin < there → cause_at there ≡ stop_there
-          cause-there past =
-              cause-behind run stops step from there until next.stretch broken (settled-there past)
-              (omega (arith, bounds)) on.1 none-on ends-there (broken-there past) kept
-              ∙ ap (cause_before step next.stretch broken) (sym pc-there)
-
-          covers-last : Covers cause_at begin there found
-          covers-last =
-              covers-on cause_at begin place there found (omega (arith, bounds)) none-slept
-              looks.covers
-
           covers-there : Covers cause_at begin until found'
           covers-there =
               let between : (at : ℕ) → begin < at → suc there ≤ at → at < until
               → cause_at at ≡ None =
               λ at past over below. no-boundary run stops step from at
               (none-on at (omega (arith, over)) below) in
+              let before : Covers cause_at begin there found =
+              covers-on cause_at begin place there found (omega (arith, bounds)) none-slept
+              looks.covers in
               ⊎_elim
               (λ (past : nat_lt begin there ≡ true).
               let later : begin < there = ltb-true begin there past in
               covers-on cause_at begin (suc there) until found' (omega (arith, bounds)) between
               (rw (found_is, past) (covers-here cause_at begin there stop_there found later
-              (cause-there later) covers-last)))
+              (cause-behind run stops step from there until next.stretch broken (there-is later).0
+              (omega (arith, bounds)) on.1 none-on ends-there (there-is later).1 kept
+              ∙ ap (cause_before step next.stretch broken) (sym pc-there)) before)))
               (λ (none_past : nat_lt begin there ≡ false).
               let same : there ≤ begin = ltb-false begin there none_past in
               covers-on cause_at begin there until found' (omega (arith, bounds))
               (λ at past over below. between at past (omega (arith, past, same)) below)
-              (rw (found_is, none_past) covers-last))
+              (rw (found_is, none_past) before))
               (cases_Bool (nat_lt begin there))
 
-          early-there : IfSome found' (λ one. one.0 ≤ last)
-          early-there =
-              rw found_is
-              (either-early last (nat_lt begin there)
-              (option_or (stop_with_place there stop_there) found) found
-              (early-or last there stop_there found (omega (arith, gone)) looks.early)
-              looks.early)
-
-          pub looks-on : Walks hash run next → place' ≡ place_of next
+          pub looks-on : {place' pc' : ℕ} {broken' : Bool}
+              → Walks hash run next → place' ≡ place_of next
               → pc' ≡ pc_of (sight_at run (place_of next)).registers
               → broken' ≡ is_plain stops (sight_at run (place_of next))
               (place_of next - length (behind (view_of run) (place_of next))) (place_of next)
@@ -266,12 +214,13 @@ module _ {D : Type 0} (hash : Hash D) (run : Run) (stops : Stops) (step : Option
                     (λ (all : until ≡ from). absurd (omega (arith, all, some, place_is)))
                     (λ (is : (sight_at run until).boundary ≡ true). rw place_is is) ends);
                 covers = rw place_is covers-there;
-                early = early-there;
+                early = rw found_is
+                    (early-here last there (nat_lt begin there) stop_there found
+                    (omega (arith, gone)) looks.early);
               }
 
-      pub looks-back : (walk : Walk D) (place pc : ℕ) (broken : Bool)
-          (found : Option (ℕ × Stop))
+      pub looks-back : {walk : Walk D} {place pc : ℕ} {broken : Bool}
+          {found : Option (ℕ × Stop)}
           → IsLookingBack walk place pc broken found → last < place
           → IsLastBehind cause_at begin last found
-      looks-back walk place pc broken found looks past =
-          covers-all cause_at begin place last found past looks.early looks.covers
+      looks-back looks past = covers-all cause_at begin _ last _ past looks.early looks.covers

@@ -1,13 +1,14 @@
 -- What is told where the last step was refused.
-use Rattle.std.{proofs.{Common.{◌≡◌, ◌≤◌, ◌<◌, ◌∙◌, ◌++◌, ℕ, List, [], Option, Some, None, Result, Ok, Err, IsErr, refl, ap, sym, arith, ◌+◌, ◌⊎◌, ⊎_elim, zero, suc, Bool, true, false, is_some, subst}, lemmas.{Bool.{false≢true, cond-false, cond-true, le-ltb, lt-ltb}, List.append-nil}}, specs.Prelude.{codes, nat_lt, if◌then◌else◌, is_ok}}
+use Rattle.std.{proofs.{Common.{◌≡◌, ◌≤◌, ◌<◌, ◌∙◌, ◌++◌, ℕ, List, [], Option, Some, None, Result, Ok, Err, IsErr, refl, ap, sym, arith, ◌+◌, ◌⊎◌, inl, inr, zero, suc, Bool, true, false, is_some, subst}, lemmas.{Bool.{false≢true, cond-false, le-ltb}, List.append-nil}}, specs.Prelude.{IfOk, codes, nat_lt, if◌then◌else◌, is_ok}}
 use Rattle.device_types.specs.declared.{rule.Rule.Rule, bus_record.BusRecord.BusRecord}
 use Rattle.hmac_core.specs.Hash.{Hash}
 use Rattle.printed_lines.specs.Line.{reset_line}
-use Rattle.debug_session.{specs.{Request.most_steps, declared.stop.Stop.{Stop, TheVariants.Refused}, Cause.refusal_or, Place.{Run, sight_at, view_of, logs_at, no_step, play_to, step_at, step_sight}, Sight.{Sight, StepSight}}, proofs.Views.view-at}
-use Rattle.debug_link.{specs.{Console.console, Writing.{PacketSink, PutsPackets}, declared.answer_fault.AnswerFault.AnswerFault}, proofs.AddedText.puts_behind}
+use Rattle.debug_session.{specs.{Request.most_steps, declared.stop.Stop.{Stop, TheVariants.Refused}, Cause.refusal_or, Place.{Run, sight_at, view_of, logs_at, play_to, step_at, step_sight}, Sight.{Sight, StepSight}}, proofs.Views.{next-at, view-at}}
+use Rattle.debug_link.{specs.{Console.console, Packet.packets_of, Writing.{PacketSink, PutsPackets}, declared.answer_fault.AnswerFault.{AnswerFault, TheVariants.Memory}}, proofs.AddedText.{puts_behind, puts_failed}}
 use Rattle.debug_walk.{specs.{Copies.IsAt, declared.walk.Walk.Walk}, proofs.Views.some-same}
-use Rattle.device_debug.{specs.{Ahead.{both_of, last_boundary, refused_at, place_past}, Going.StopsBefore, Telling.GrownText}, proofs.Ahead.tells-ahead}
+use Rattle.device_debug.{specs.{Ahead.{both_of, last_boundary, refused_at, place_past}, Going.StopsBefore, Telling.GrownText}, proofs.Ahead.{both-parts, last-is, none-told}}
 use Rattle.device_core.specs.Silence.{last_rule}
+use Rattle.device_play.proofs.WriteCounts.{nothing-begun}
 use Rattle.device_trace.specs.Trace.{last_record, trace}
 use Rattle.outside_edge.specs.{Sink.Puts, declared.sink.Sink.Ghosts as SinkGhosts}
 
@@ -21,55 +22,21 @@ pub has-grown : {V E : Type 0} (old new : GrownText) (text : List ℕ) (given : 
 has-grown old new text (Ok value) puts is = sym (puts.all old.bytes refl)
 has-grown old new text (Err error) puts is = absurd (false≢true (sym is))
 
--- the texts of two calls
-pub has-both : {V E U F : Type 0} (old mid new : GrownText) (one two : List ℕ)
-    (first : Result V E) (second : Result U F)
-    → old ≡ record { bytes = []; faults = 0 }
-    → Puts (λ (grown : GrownText) (bytes : List ℕ). bytes ≡ grown.bytes) old mid one first
-    → true ≡ is_ok first
-    → Puts (λ (grown : GrownText) (bytes : List ℕ). bytes ≡ grown.bytes) mid new two second
-    → true ≡ is_ok second
-    → new.bytes ≡ one ++ two
-has-both old mid new one two first second none puts is more too =
-    has-grown mid new two second more too
-    ∙ ap (λ (front : List ℕ). front ++ two)
-    (has-grown old mid one first puts is
-    ∙ ap (λ (text : GrownText). text.bytes ++ one) none)
-
-module _ {W : Type 0} (w : SinkGhosts W) where
-  -- a call that failed before the first packet
-  pub puts-none : {V E : Type 0} (same : PacketSink W) (bodies : List (List ℕ))
-      (result : Result V E)
-      → IsErr result → PutsPackets w same same bodies result
-  puts-none same bodies (Ok value) is = absurd (false≢true is)
-  puts-none same bodies (Err error) is =
-      record {
-        all = tt;
-        prefix = (0, omega arith, λ before holds. rw (append-nil before) holds);
-      }
-
-  -- a call that failed as another did
-  pub puts-failed : {V E U F : Type 0} (old new : PacketSink W) (bodies : List (List ℕ)) (fault : E)
-      (result : Result U F)
-      → PutsPackets {V = V} w old new bodies (Err fault) → IsErr result
-      → PutsPackets w old new bodies result
-  puts-failed old new bodies fault (Ok value) puts is = absurd (false≢true is)
-  puts-failed old new bodies fault (Err error) puts is =
-      record { all = tt; prefix = puts.prefix }
-
--- Texts that grow in memory.
-
 -- a text into which another one was put, before which there was none
 pub grown-all : {V E : Type 0} (old new : GrownText) (text : List ℕ) (result : Result V E)
     → old.bytes ≡ [] → true ≡ is_ok result
     → Puts (λ (one : GrownText) (bytes : List ℕ). bytes ≡ one.bytes) old new text result
     → new.bytes ≡ text
-grown-all old new text (Ok value) none is puts = sym (puts.all [] (sym none))
-grown-all old new text (Err error) none is puts = absurd (false≢true (sym is))
+grown-all old new text result none is puts =
+    has-grown old new text result puts is ∙ ap (λ (front : List ℕ). front ++ text) none
 
-none-told : (last : Option ℕ) → both_of last None ≡ None
-none-told None = refl
-none-told (Some at) = refl
+-- a call that failed before the first packet
+pub puts-none : {W V E : Type 0} (w : SinkGhosts W) (same : PacketSink W)
+    (bodies : List (List ℕ)) (result : Result V E)
+    → IsErr result → PutsPackets w same same bodies result
+puts-none w same bodies result is =
+    puts_failed w same same bodies result is
+    (nothing-begun w.stands same.sink (packets_of bodies))
 
 module _ {D W : Type 0} (hash : Hash D) (w : SinkGhosts W) (run : Run) (from step : ℕ)
     (few : step < most_steps)
@@ -92,102 +59,91 @@ module _ {D W : Type 0} (hash : Hash D) (w : SinkGhosts W) (run : Run) (from ste
     stops-unrefused now none =
         rw (found-is, ← none, none-told (last_boundary (view_of run) from step)) (refl, refl)
 
-    pub stops-nowhere : (now : PacketSink W) → None ≡ last_boundary (view_of run) from step
-        → StopsSo now now (Ok None)
-    stops-nowhere now none =
-        rw (found-is, ← none) (refl, refl)
-
-    nothing-put : (now : PacketSink W) (found : Option (ℕ × Rule))
+    pub looking-fails : (now : PacketSink W) (found : Option (ℕ × Rule))
         (result : Result (Option (Walk D × Stop)) AnswerFault) → IsErr result
         → StopsBefore hash w now now run step found result
-    nothing-put now found (Ok value) failed = absurd (false≢true failed)
-    nothing-put now None (Err fault) failed = (refl, tt)
-    nothing-put now (Some found) (Err fault) failed = (puts-none w now _ (Err fault) refl, tt)
+    looking-fails now found (Ok value) failed = absurd (false≢true failed)
+    looking-fails now None (Err fault) failed = (refl, tt)
+    looking-fails now (Some found) (Err fault) failed = (puts-none w now _ (Err fault) refl, tt)
 
-    pub looking-fails : (now : PacketSink W)
-        (result : Result (Option (Walk D × Stop)) AnswerFault) → IsErr result
-        → StopsSo now now result
-    looking-fails now result failed =
-        nothing-put now (refused_at (view_of run) from step) result failed
+    pub found-so : (at : ℕ) (rule : Rule) → Some rule ≡ told
+        → Some at ≡ last_boundary (view_of run) from step
+        → refused_at (view_of run) from step ≡ Some (at, rule)
+    found-so at rule told_is last_is =
+        found-is ∙ (λ i. both_of (sym last_is i) (sym told_is i))
 
-    module _ (at : ℕ) (rule : Rule) (told_is : Some rule ≡ told)
-        (last_is : Some at ≡ last_boundary (view_of run) from step)
+    -- it is told of the step, by its number
+    module _ (at : ℕ) (rule : Rule) (found : refused_at (view_of run) from step ≡ Some (at, rule))
+        (number : ℕ) (same : number ≡ step)
       where
-        abbrev text : List (List ℕ)
-        text = console (codes "stops before " ++ reset_line step rule)
-
-        found-so : refused_at (view_of run) from step ≡ Some (at, rule)
-        found-so = found-is ∙ (λ i. both_of (sym last_is i) (sym told_is i))
+        abbrev text : ℕ → List (List ℕ)
+        text one = console (codes "stops before " ++ reset_line one rule)
 
         pub at-most : at ≤ most_steps
         at-most =
-            let tells =
-            tells-ahead (view_of run) from step at most_steps rule few (sym last_is)
-            (ap (λ (sight : Sight). refusal_or sight.next.refused None)
-            (view-at run step (omega (arith, few)))
-            ∙ sym told_is) in
-            omega (arith, tells.from_here, few)
+            let last = last-is (view_of run) from step at (omega (arith, few))
+            (both-parts _ _ at rule found).0 in
+            omega (arith, last.before, few)
 
         stops-as : (old new : PacketSink W)
             (result : Result (Option (Walk D × Stop)) AnswerFault)
-            → StopsBefore hash w old new run step (Some (at, rule)) result
+            → PutsPackets w old new (text number) result
+            → IfOk result (λ stopped. (walk : Walk D) × IsAt hash run at walk
+            × (stopped ≡ Some (walk, Refused rule)))
             → StopsSo old new result
-        stops-as old new result stops =
-            rw found-so stops
+        stops-as old new result puts there =
+            rw found (subst (λ (one : ℕ). PutsPackets w old new (text one) result) same puts, there)
 
-        fails-by : (old new : PacketSink W) (result : Result (Option (Walk D × Stop)) AnswerFault)
-            → IsErr result → PutsPackets w old new text result → StopsSo old new result
-        fails-by old new (Ok value) failed puts = absurd (false≢true failed)
-        fails-by old new (Err fault) failed puts = stops-as old new (Err fault) (puts, tt)
-
-        pub telling-fails : {V : Type 0} (old new : PacketSink W) (fault : AnswerFault)
+        -- it failed to tell it, or behind that
+        pub fails-behind : {V : Type 0} (old new : PacketSink W) (told : Result V AnswerFault)
             (result : Result (Option (Walk D × Stop)) AnswerFault) → IsErr result
-            → PutsPackets {V = V} w old new text (Err fault) → StopsSo old new result
-        telling-fails old new fault result failed puts =
-            fails-by old new result failed (puts-failed w old new text fault result puts failed)
-
-        pub going-back-fails : {V : Type 0} (old new : PacketSink W) (value : V)
-            (result : Result (Option (Walk D × Stop)) AnswerFault) → IsErr result
-            → PutsPackets {E = AnswerFault} w old new text (Ok value) → StopsSo old new result
-        going-back-fails old new value result failed puts =
-            fails-by old new result failed
-            (rw (append-nil text) at (puts_behind w old new new text [] result puts.all
-            (puts-none w new [] result failed)))
+            → PutsPackets w old new (text number) told → StopsSo old new result
+        fails-behind old new told (Ok value) failed puts = absurd (false≢true failed)
+        fails-behind old new (Err fault) (Err other) failed puts =
+            stops-as old new (Err other) (record { all = tt; prefix = puts.prefix }) tt
+        fails-behind old new (Ok value) (Err other) failed puts =
+            stops-as old new (Err other)
+            (rw (append-nil (text number)) at
+            (puts_behind w {V = Option (Walk D × Stop)} old new new (text number) [] (Err other)
+            puts.all (puts-none w new [] (Err other) refl)))
+            tt
 
         pub stops-at : {V : Type 0} (old new : PacketSink W) (value : V) (walk : Walk D)
-            → IsAt hash run at walk → PutsPackets {E = AnswerFault} w old new text (Ok value)
+            → IsAt hash run at walk
+            → PutsPackets {E = AnswerFault} w old new (text number) (Ok value)
             → StopsSo old new (Ok (Some (walk, Refused rule)))
         stops-at old new value walk there puts =
             stops-as old new (Ok (Some (walk, Refused rule)))
-            (record { all = puts.all; prefix = tt }, (walk, there, refl))
+            (record { all = puts.all; prefix = tt }) (walk, there, refl)
 
 -- A walk that looks for the last boundary before a refusal.
 
+next-there : (run : Run) (place : ℕ) → place < most_steps
+    → (sight_at run place).next ≡ step_sight run place
+next-there run place before =
+    rw (view-at run place (omega (arith, before))) at (next-at run place before)
+
 -- the rule by which a walk's last step was refused
-pub refused-was : (run : Run) (before : ℕ) (entry : BusRecord) → before < most_steps
-    → last_record (trace run.start (play_to run (suc before))) ≡ Some entry
+pub refused-was : (run : Run) (place before : ℕ) (entry : BusRecord) → place ≡ suc before
+    → place ≤ most_steps → last_record (trace run.start (play_to run place)) ≡ Some entry
     → (sight_at run before).next.refused ≡ entry.reset
-unfolding trace step_at logs_at sight_at step_sight
-refused-was run before entry few is =
+unfolding trace step_at logs_at step_sight
+refused-was run place before entry made within is =
     ap (λ (next : StepSight). next.refused)
-    (cond-true (nat_lt before most_steps) (step_sight run before) no_step
-    (lt-ltb before most_steps few))
-    ∙ ap (λ (one : BusRecord). one.reset) (some-same is)
+    (next-there run before (omega (arith, made, within)))
+    ∙ ap (λ (one : BusRecord). one.reset) (some-same (rw made at is))
 
 -- the rule that the line of a walk's last step tells
 pub refusal-was : (run : Run) (before place : ℕ) (told : Option Rule) → place ≡ before + 1
     → place ≤ most_steps → told ≡ last_rule (trace run.start (play_to run place))
     → refusal_or told None ≡ refusal_or (sight_at run before).next.refused None
-unfolding trace step_at logs_at sight_at step_sight
+unfolding trace step_at logs_at step_sight
 refusal-was run before place told made within is =
     let same : place ≡ suc before = omega (arith, made) in
-    let here : told ≡ (step_at run before).reset =
-    subst (λ (count : ℕ). told ≡ last_rule (trace run.start (play_to run count))) same is in
+    let here : told ≡ (step_at run before).reset = rw same at is in
     ap (λ (one : Option Rule). refusal_or one None)
-    (here
-    ∙ sym (ap (λ (next : StepSight). next.refused)
-    (cond-true (nat_lt before most_steps) (step_sight run before) no_step
-    (lt-ltb before most_steps (omega (arith, made, within))))))
+    (here ∙ sym (ap (λ (next : StepSight). next.refused)
+    (next-there run before (omega (arith, made, within)))))
 
 none-either : (here : Bool) (one : Option ℕ) → one ≡ None → (if here then one else None) ≡ None
 none-either true one none = none
@@ -200,10 +156,7 @@ module _ (run : Run) (from : ℕ) where
       → (if some then None else last)
       ≡ (if (sight_at run place).boundary then place_past from place
       else if is_some (sight_at run before).next.refused then None else last)
-  past-behind place before reset some last away is told =
-      let same : some ≡ is_some (sight_at run before).next.refused =
-      told ∙ ap (λ (one : Option Rule). is_some one) (sym is) in
-      λ i. if away i then place_past from place else if same i then None else last
+  past-behind place before reset some last away is told = rw (← away, is, ← told) refl
 
   pub past-first : (place : ℕ) → place ≤ most_steps
       → (place ≡ 0) ⊎ ((sight_at run place).boundary ≡ true)
@@ -212,23 +165,21 @@ module _ (run : Run) (from : ℕ) where
   past-first zero within settled =
       none-either (sight_at run 0).boundary (place_past from 0)
       (cond-false (nat_lt from 0) (Some 0) None (le-ltb from 0 (omega arith)))
-  past-first (suc before) within settled =
-      ⊎_elim
-      (λ (none : suc before ≡ 0). absurd (omega (arith, none)))
-      (λ (here : (sight_at run (suc before)).boundary ≡ true).
-      rw (view-at run (suc before) within, here) refl)
-      settled
+  past-first (suc before) within settled = elim settled [
+    | inl none ↦ absurd (omega (arith, none))
+    | inr here ↦ rw (view-at run (suc before) within, here) refl
+  ]
 
-  pub past-next : (before : ℕ) (last result : Option ℕ) → suc before ≤ most_steps
-      → last ≡ last_boundary (view_of run) from before
-      → result ≡ (if (sight_at run (suc before)).boundary then place_past from (suc before)
+  pub past-next : (place before : ℕ) (last result : Option ℕ) → place ≡ suc before
+      → place ≤ most_steps → last ≡ last_boundary (view_of run) from before
+      → result ≡ (if (sight_at run place).boundary then place_past from place
       else if is_some (sight_at run before).next.refused then None else last)
-      → result ≡ last_boundary (view_of run) from (suc before)
-  past-next before last result within known is =
-      let here : sight_at run (suc before) ≡ view_of run (suc before) =
-      sym (view-at run (suc before) within) in
-      let there : sight_at run before ≡ view_of run before =
-      sym (view-at run before (omega (arith, within))) in
-      is
-      ∙ (λ i. if (here i).boundary then place_past from (suc before)
-      else if is_some (there i).next.refused then None else known i)
+      → result ≡ last_boundary (view_of run) from place
+  past-next place before last result made within known is =
+      rw (
+        made,
+        view-at run (suc before) (omega (arith, made, within)),
+        view-at run before (omega (arith, made, within)),
+        ← known,
+      )
+      (rw made at is)

@@ -9,26 +9,37 @@ use Rattle.debug_walk.{specs.{Walk.OfWalk, declared.walk.Walk.Walk}, proofs.Show
 use Rattle.device_debug.{specs.{Session.{DebuggerStandsFor, Gives, run_at, view_in}, declared.debugger.Debugger.Debugger}, proofs.Answering.{holds-here, said-so}}
 
 module _ (here : Sight) (first size : ℕ) where
-  abbrev some_body : List ℕ
-  some_body = bytes_or (here.byte_at first) (bytes_shown here first (min size 2048))
+  abbrev body_with : Option ℕ → List ℕ
+  body_with byte = bytes_or byte (bytes_shown here first (min size 2048))
 
   -- no bytes are asked for
   no-body : size ≡ 0 → [] ≡ memory_body here first size
-  no-body none = sym (cond-true (size == 0) [] some_body (eq-eqb size 0 none))
+  no-body none =
+      sym (cond-true (size == 0) [] (body_with (here.byte_at first)) (eq-eqb size 0 none))
 
-  some-body : (size ≡ 0 → ⊥) → memory_body here first size ≡ some_body
-  some-body some = cond-false (size == 0) [] some_body (ne_eqb size 0 some)
+  some-body : {byte : Option ℕ} → (size ≡ 0 → ⊥) → here.byte_at first ≡ byte
+      → body_with byte ≡ memory_body here first size
+  some-body some is =
+      rw (← is)
+      (sym (cond-false (size == 0) [] (body_with (here.byte_at first)) (ne_eqb size 0 some)))
 
-module _ {D W : Type 0} (hash : Hash D) (w : SinkGhosts W) where
-  sight-here : (debugger : Debugger D) (session : Session)
-      → DebuggerStandsFor hash debugger session
-      → sight_at (run_at hash debugger) session.place ≡ view_in hash debugger session.place
-  sight-here debugger session stands =
-      sym (view-at (run_at hash debugger) session.place stands.stands.within)
+sight-here : {D : Type 0} (hash : Hash D) (debugger : Debugger D) (session : Session)
+    → DebuggerStandsFor hash debugger session
+    → sight_at (run_at hash debugger) session.place ≡ view_in hash debugger session.place
+sight-here hash debugger session stands =
+    sym (view-at (run_at hash debugger) session.place stands.stands.within)
 
+-- what was put is what its memory shows
+abbrev pub SaysMemory : {D W : Type 0} → Hash D → SinkGhosts W → PacketSink W → PacketSink W
+    → Debugger D → ℕ → ℕ → Result Connection AnswerFault → Type 0
+SaysMemory hash w old new debugger first size result =
+    Gives hash w old new debugger debugger
+    (λ session. says session (memory_body (view_in hash debugger session.place) first size)) result
+
+module _ {D W : Type 0} {hash : Hash D} {w : SinkGhosts W} where
   -- its registers were put
-  pub registers-said : (old new : PacketSink W) (debugger : Debugger D) (halted : Walk D)
-      (bytes items : List ℕ) (result : Result Connection AnswerFault)
+  pub registers-said : {old new : PacketSink W} {debugger : Debugger D} {halted : Walk D}
+      {bytes items : List ℕ} {result : Result Connection AnswerFault}
       → bytes ≡ items → debugger.halted ≡ Some halted
       → OfWalk hash halted (λ run place.
       items ≡ registers_bytes (sight_at run place).registers)
@@ -36,70 +47,64 @@ module _ {D W : Type 0} (hash : Hash D) (w : SinkGhosts W) where
       result
       → Gives hash w old new debugger debugger
       (λ session. says session (registers_shown (view_in hash debugger session.place))) result
-  registers-said old new debugger halted bytes items result are is shown gives =
-      said-so hash w old new debugger debugger (encode_lower bytes)
-      (λ session. registers_shown (view_in hash debugger session.place)) result
+  registers-said {debugger = debugger} {halted} {bytes} {items} are is shown gives =
+      said-so (encode_lower bytes)
+      (λ session. registers_shown (view_in hash debugger session.place))
       (λ session stands. ap (λ (one : List ℕ). encode_lower one)
       (are ∙ holds-here hash debugger session halted
       (λ run place. items ≡ registers_bytes (sight_at run place).registers) is stands shown
-      ∙ ap (λ (one : Sight). registers_bytes one.registers) (sight-here debugger session stands)))
+      ∙ ap (λ (one : Sight). registers_bytes one.registers)
+      (sight-here hash debugger session stands)))
       gives
 
-  module _ (old new : PacketSink W) (debugger : Debugger D) (first size : ℕ)
-      (result : Result Connection AnswerFault) where
-    -- what was put is what its memory shows
-    abbrev pub SaysMemory : Type 0
-    SaysMemory =
-        Gives hash w old new debugger debugger
-        (λ session. says session (memory_body (view_in hash debugger session.place) first size))
-        result
+  module _ {old new : PacketSink W} {debugger : Debugger D} (first size : ℕ)
+      {result : Result Connection AnswerFault} where
+    memory-so : (body : List ℕ)
+        → ((session : Session) → DebuggerStandsFor hash debugger session
+        → body ≡ memory_body (sight_at (run_at hash debugger) session.place) first size)
+        → Gives hash w old new debugger debugger (λ session. says session body) result
+        → SaysMemory hash w old new debugger first size result
+    memory-so body is gives =
+        said-so body (λ session. memory_body (view_in hash debugger session.place) first size)
+        (λ session stands. is session stands
+        ∙ ap (λ (one : Sight). memory_body one first size)
+        (sight-here hash debugger session stands))
+        gives
 
     -- no bytes were asked for
     pub nothing-shown : size ≡ 0
         → Gives hash w old new debugger debugger (λ session. says session []) result
-        → SaysMemory
+        → SaysMemory hash w old new debugger first size result
     nothing-shown none gives =
-        said-so hash w old new debugger debugger []
-        (λ session. memory_body (view_in hash debugger session.place) first size) result
-        (λ session stands. no-body (view_in hash debugger session.place) first size none)
+        memory-so []
+        (λ session stands. no-body (sight_at (run_at hash debugger) session.place) first size none)
         gives
 
     -- the first can't be shown
     pub secret-refused : (size ≡ 0 → ⊥) → is_shown first ≡ false
         → Gives hash w old new debugger debugger (λ session. says session (codes "E01")) result
-        → SaysMemory
+        → SaysMemory hash w old new debugger first size result
     secret-refused some secret gives =
-        said-so hash w old new debugger debugger (codes "E01")
-        (λ session. memory_body (view_in hash debugger session.place) first size) result
-        (λ session stands.
-        let here : Sight = sight_at (run_at hash debugger) session.place in
-        ap (λ (one : Option ℕ). bytes_or one (bytes_shown here first (min size 2048)))
-        (sym (none-there (run_at hash debugger) session.place first secret))
-        ∙ sym (some-body here first size some)
-        ∙ ap (λ (one : Sight). memory_body one first size) (sight-here debugger session stands))
+        memory-so (codes "E01")
+        (λ session stands. some-body (sight_at (run_at hash debugger) session.place) first size some
+        (none-there (run_at hash debugger) session.place first secret))
         gives
 
     -- it can, and bytes were put
-    pub memory-said : (halted : Walk D) (bytes items : List ℕ)
+    pub memory-said : {halted : Walk D} {bytes items : List ℕ}
         → (size ≡ 0 → ⊥) → is_shown first ≡ true
         → bytes ≡ items → debugger.halted ≡ Some halted
         → OfWalk hash halted
         (λ run place. items ≡ bytes_shown (sight_at run place) first (min size 2048))
         → Gives hash w old new debugger debugger
         (λ session. says session (encode_lower bytes)) result
-        → SaysMemory
-    memory-said halted bytes items some shown are is of_halted gives =
-        said-so hash w old new debugger debugger (encode_lower bytes)
-        (λ session. memory_body (view_in hash debugger session.place) first size) result
-        (λ session stands.
-        let here : Sight = sight_at (run_at hash debugger) session.place in
-        let byte = some-there (run_at hash debugger) session.place first shown in
-        ap (λ (one : List ℕ). encode_lower one)
+        → SaysMemory hash w old new debugger first size result
+    memory-said {halted} {bytes} {items} some shown are is of_halted gives =
+        memory-so (encode_lower bytes)
+        (λ session stands. ap (λ (one : List ℕ). encode_lower one)
         (are ∙ holds-here hash debugger session halted
         (λ run place. items ≡ bytes_shown (sight_at run place) first (min size 2048)) is stands
         of_halted)
-        ∙ ap (λ (one : Option ℕ). bytes_or one (bytes_shown here first (min size 2048)))
-        (sym byte.1)
-        ∙ sym (some-body here first size some)
-        ∙ ap (λ (one : Sight). memory_body one first size) (sight-here debugger session stands))
+        ∙ some-body (sight_at (run_at hash debugger) session.place) first size some
+        (some-there (run_at hash debugger) session.place first shown).1)
         gives

@@ -3,11 +3,10 @@ use Rattle.std.{proofs.{Common.{◌≡◌, ◌<◌, ◌+◌, ◌∙◌, ◌++◌
 use Rattle.hmac_core.specs.Hash.{Hash}
 use Rattle.device_core.specs.{Device.LiveStandsFor, declared.live.Live.Live}
 use Rattle.device_trace.specs.Trace.{play_of}
-use Rattle.device_play.proofs.WriteCounts.{nothing-begun}
-use Rattle.debug_link.{specs.{Console.console, Packet.packets_of, Writing.{HasPut, PacketSink, PutsPackets}}, proofs.AddedText.{put_both, put_none, puts_behind, puts_failed, puts_less}}
+use Rattle.debug_link.{specs.{Console.console, Writing.{HasPut, PacketSink, PutsPackets}}, proofs.AddedText.{put_both, puts_behind, puts_failed, puts_less}}
 use Rattle.debug_session.specs.Place.{Run, sight_at, logs_at, play_to, step_sight}
 use Rattle.debug_walk.{specs.{Walk.{AuxFlag, Walks, place_of, second_flag}, declared.walk.Walk.Walk}, proofs.Views.some-same}
-use Rattle.device_debug.specs.Telling.{GrownText, TellsStep, bodies_of, step_bodies}
+use Rattle.device_debug.{specs.Telling.{GrownText, TellsStep, bodies_of, step_bodies}, proofs.Refusals.puts-none}
 use Rattle.trace_files.specs.{LineText.trace_line, declared.trace_line.TraceLine.TraceLine, TraceText.last_line}
 use Rattle.outside_edge.specs.declared.sink.Sink.{Ghosts as SinkGhosts}
 
@@ -37,124 +36,90 @@ kept-is old inside new value text (Ok done) pushed ok same is =
     ∙ ap (λ (one : GrownText). bodies_of old ++ console one.bytes) is
 kept-is old inside new value text (Err error) pushed ok same is = absurd (false≢true ok)
 
-pub bodies-next : (texts : List GrownText) (n : ℕ) (text : GrownText)
-    → n < length texts → text ≡ get_or texts n text
-    → bodies_of (take (n + 1) texts) ≡ bodies_of (take n texts) ++ console text.bytes
-bodies-next texts n text within is =
-    ap bodies_of (take_more texts n text within)
-    ∙ bodies-more (take n texts) (get_or texts n text)
-    ∙ ap (λ (one : GrownText). bodies_of (take n texts) ++ console one.bytes) (sym is)
+-- the texts of a list up to one of them
+module _ (texts : List GrownText) (n : ℕ) (text : GrownText) (within : n < length texts)
+    (is : text ≡ get_or texts n text)
+  where
+    bodies-next : bodies_of (take (n + 1) texts) ≡ bodies_of (take n texts) ++ console text.bytes
+    bodies-next =
+        ap bodies_of (take_more texts n text within)
+        ∙ bodies-more (take n texts) (get_or texts n text)
+        ∙ ap (λ (one : GrownText). bodies_of (take n texts) ++ console one.bytes) (sym is)
 
-pub bodies-rest : (texts : List GrownText) (n : ℕ)
-    → bodies_of texts ≡ bodies_of (take n texts) ++ bodies_of (drop n texts)
-bodies-rest texts n =
-    ap bodies_of (sym (take-append-drop n texts)) ∙ bodies-both (take n texts) (drop n texts)
+    -- the call of this one failed, behind those before it
+    pub texts-failed : {W V U E F : Type 0} {w : SinkGhosts W} {old mid new : PacketSink W}
+        {error : E} {result : Result V F}
+        → IsErr result
+        → HasPut w old mid (bodies_of (take n texts))
+        → PutsPackets {V = U} w mid new (console text.bytes) (Err error)
+        → PutsPackets w old new (bodies_of texts) result
+    texts-failed {U = U} {w = w} failed put puts =
+        let later : List (List ℕ) = bodies_of (drop (n + 1) texts) in
+        let whole : bodies_of texts ≡ (bodies_of (take n texts) ++ console text.bytes) ++ later =
+        ap bodies_of (sym (take-append-drop (n + 1) texts)) ∙ bodies-both (take (n + 1) texts) _
+        ∙ ap (λ (front : List (List ℕ)). front ++ later) bodies-next in
+        puts_failed _ _ _ _ _ failed
+        (rw whole (puts_less w {V = U} _ _ _ later _ (puts_behind w _ _ _ _ _ _ put puts)).prefix)
 
-module _ {W : Type 0} (w : SinkGhosts W) where
-  -- the call of one text failed, behind those before it
-  pub texts-failed : {V U E F : Type 0} (old mid new : PacketSink W) (texts : List GrownText)
-      (n : ℕ) (text : GrownText) (error : E) (result : Result V F)
-      → n < length texts → text ≡ get_or texts n text
-      → IsErr result
-      → HasPut w old mid (bodies_of (take n texts))
-      → PutsPackets {V = U} w mid new (console text.bytes) (Err error)
-      → PutsPackets w old new (bodies_of texts) result
-  texts-failed {U = U} old mid new texts n text error result within is failed put puts =
-      let whole : bodies_of texts
-      ≡ (bodies_of (take n texts) ++ console text.bytes) ++ bodies_of (drop (n + 1) texts) =
-      bodies-rest texts (n + 1)
-      ∙ ap (λ (front : List (List ℕ)). front ++ bodies_of (drop (n + 1) texts))
-      (bodies-next texts n text within is) in
-      let less = puts_less w {V = U} old new (bodies_of (take n texts) ++ console text.bytes)
-      (bodies_of (drop (n + 1) texts)) error
-      (puts_behind w {V = U} old mid new (bodies_of (take n texts)) (console text.bytes)
-      (Err error) put puts) in
-      puts_failed w old new (bodies_of texts) result failed (rw (← whole) at less.prefix)
+    -- this one was put too
+    pub texts-next : {W : Type 0} {w : SinkGhosts W} {old mid new : PacketSink W}
+        → HasPut w old mid (bodies_of (take n texts)) → HasPut w mid new (console text.bytes)
+        → HasPut w old new (bodies_of (take (n + 1) texts))
+    texts-next put more = rw bodies-next (put_both _ _ _ _ _ _ put more)
 
-  -- one text more was put
-  pub texts-next : (old mid new : PacketSink W) (texts : List GrownText) (n : ℕ)
-      (text : GrownText)
-      → n < length texts → text ≡ get_or texts n text
-      → HasPut w old mid (bodies_of (take n texts))
-      → HasPut w mid new (console text.bytes)
-      → HasPut w old new (bodies_of (take (n + 1) texts))
-  texts-next old mid new texts n text within is put more =
-      rw (bodies-next texts n text within is)
-      (put_both w old mid new (bodies_of (take n texts)) (console text.bytes) put more)
+module _ {W : Type 0} {w : SinkGhosts W} where
+  module _ {V E : Type 0} {old new : PacketSink W} {waiting left : List GrownText} {run : Run}
+      {step : ℕ} {result : Result V E} {all : List (List ℕ)}
+      (whole : all ≡ bodies_of waiting ++ step_bodies run step)
+    where
+      -- at a boundary all is put
+      pub tells-all : (sight_at run (suc step)).boundary ≡ true
+          → PutsPackets w old new all result → OnOk result (left ≡ [])
+          → TellsStep w old new waiting left run step result
+      tells-all here puts emptied =
+          record {
+            put = all;
+            later = [];
+            whole = append-nil all ∙ whole;
+            has_put = puts.all;
+            prefix = puts.prefix;
+            waits = on_ok_weaker result (λ (is : left ≡ []). sym (ap bodies_of is)) emptied;
+            none_waits = λ same. refl;
+            none_put = λ away. absurd (cc (away, here));
+          }
+
+      -- and elsewhere it waits
+      pub tells-later : (sight_at run (suc step)).boundary ≡ false
+          → PutsPackets w old new [] result → OnOk result (all ≡ bodies_of left)
+          → TellsStep w old new waiting left run step result
+      tells-later away puts waits =
+          record {
+            put = [];
+            later = all;
+            whole = whole;
+            has_put = puts.all;
+            prefix = puts.prefix;
+            waits = waits;
+            none_waits = λ here. absurd (cc (away, here));
+            none_put = λ same. refl;
+          }
 
   -- behind a step nothing was put, since there was no memory for its lines
-  pub tells-none : {V E : Type 0} (now : PacketSink W) (waiting new : List GrownText) (run : Run)
-      (step : ℕ) (result : Result V E)
+  pub tells-none : {V E : Type 0} {now : PacketSink W} {waiting new : List GrownText} {run : Run}
+      {step : ℕ} (result : Result V E)
       → IsErr result → TellsStep w now now waiting new run step result
-  tells-none now waiting new run step (Ok value) failed = absurd (false≢true failed)
-  tells-none now waiting new run step (Err error) failed =
-      let all : List (List ℕ) = bodies_of waiting ++ step_bodies run step in
-      ⊎_elim
-      (λ here. record {
-        put = all;
-        later = [];
-        whole = append-nil all;
-        has_put = tt;
-        prefix = nothing-begun w.stands now.sink (packets_of all);
-        waits = tt;
-        none_waits = λ same. refl;
-        none_put = λ away. absurd (false≢true (sym away ∙ here));
-      })
-      (λ away. record {
-        put = [];
-        later = all;
-        whole = refl;
-        has_put = tt;
-        prefix = nothing-begun w.stands now.sink (packets_of []);
-        waits = tt;
-        none_waits = λ here. absurd (false≢true (sym away ∙ here));
-        none_put = λ same. refl;
-      })
-      (cases_Bool ((sight_at run (suc step)).boundary))
-
-  -- at a boundary all is put
-  pub tells-all : {V E : Type 0} (old new : PacketSink W) (waiting mid left : List GrownText)
-      (run : Run) (step : ℕ) (result : Result V E)
-      → bodies_of mid ≡ bodies_of waiting ++ step_bodies run step
-      → (sight_at run (suc step)).boundary ≡ true
-      → PutsPackets w old new (bodies_of mid) result → OnOk result (left ≡ [])
-      → TellsStep w old new waiting left run step result
-  tells-all old new waiting mid left run step result whole here puts emptied =
-      record {
-        put = bodies_of mid;
-        later = [];
-        whole = append-nil (bodies_of mid) ∙ whole;
-        has_put = puts.all;
-        prefix = puts.prefix;
-        waits = on_ok_weaker result (λ (is : left ≡ []). sym (ap bodies_of is)) emptied;
-        none_waits = λ same. refl;
-        none_put = λ away. absurd (false≢true (sym away ∙ here));
-      }
-
-  -- and elsewhere it waits
-  pub tells-later : {V E : Type 0} (now : PacketSink W) (waiting mid : List GrownText) (run : Run)
-      (step : ℕ) (value : V)
-      → bodies_of mid ≡ bodies_of waiting ++ step_bodies run step
-      → (sight_at run (suc step)).boundary ≡ false
-      → TellsStep {E = E} w now now waiting mid run step (Ok value)
-  tells-later now waiting mid run step value whole away =
-      record {
-        put = [];
-        later = bodies_of mid;
-        whole = whole;
-        has_put = put_none w now;
-        prefix = tt;
-        waits = refl;
-        none_waits = λ here. absurd (false≢true (sym away ∙ here));
-        none_put = λ same. refl;
-      }
+  tells-none (Ok value) failed = absurd (false≢true failed)
+  tells-none {run = run} {step = step} (Err error) failed =
+      ⊎_elim (λ here. tells-all refl here (puts-none _ _ _ _ failed) tt)
+      (λ away. tells-later refl away (puts-none _ _ _ _ failed) tt)
+      (cases_Bool (sight_at run (suc step)).boundary)
 
 -- the last step of a walk, as its device stands for it
 pub last-stands : {D : Type 0} {hash : Hash D} (run : Run) (walk : Walk D)
-    (live : Live D AuxFlag) (step : ℕ)
+    {live : Live D AuxFlag} (step : ℕ)
     → live ≡ walk.live → Walks hash run walk → place_of walk ≡ suc step
     → LiveStandsFor hash second_flag live run.start (play_of run.events_at (suc step))
-last-stands {hash = hash} run walk live step same walks made =
+last-stands {hash = hash} run walk step same walks made =
     rw same
     (subst (λ (steps : ℕ). LiveStandsFor hash second_flag walk.live run.start
     (play_of run.events_at steps)) made walks.stands)

@@ -1,7 +1,6 @@
-use Rattle.std.proofs.Common.{◌≡◌, ◌∙◌, ◌⊎◌, ℕ, true, subst, arith}
-use Rattle.debug_session.specs.{Cause.cause, Place.{sight_at, view_of}}
-use Rattle.debug_walk.specs.Walk.{IsStretch, place_of}
-use Rattle.device_debug.{specs.{Ahead.{IsLastBehind, seek_back}, Going.step_in}, proofs.{Back.exact-tells, LookingBack.{looks-back, looks-on}}}
+use Rattle.std.proofs.Common.{◌∙◌, true, arith}
+use Rattle.debug_walk.specs.Walk.{place_of}
+use Rattle.device_debug.{specs.Going.step_in, proofs.{Back.exact-tells, LookingBack.{looks-back, looks-on}}}
 use Rattle.device_debug.proofs.backwards.last_cause.Goals as goal
 
 pub loop-here-preserved : goal.loop-here-preserved
@@ -9,7 +8,6 @@ loop-here-preserved g c =
     let stops = c.args.stops.now in
     let step = step_in c.args.seek.now in
     let at = c.loop-here in
-    let here = at.here in
     let left = c.leave-walk.ensures in
     let next = c.to_boundary-walk.ensures in
     let there = c.place_here-here-in-loop-here in
@@ -25,18 +23,13 @@ loop-here-preserved g c =
           let looks = at.invariant.looks run begun before in
           let walks-left = left.walks run looks.walks in
           let walks-next = next.walks run walks-left in
-          let fresh : ((sight_at run (place_of at.walk)).boundary ≡ true)
-          ⊎ IsStretch stops.watches run (place_of at.walk) at.walk.stretch =
-          subst
-          (λ (place : ℕ). ((sight_at run place).boundary ≡ true)
-          ⊎ IsStretch stops.watches run place at.walk.stretch) looks.place_is
+          let fresh =
+          rw looks.place_is at
           (looks.fresh (omega (arith, c.loop-here-test.true, c.requires.late))) in
           let kept = (rw c.watches.ensures at next.stretch) run walks-left
           (left.stretch run looks.walks fresh) in
-          looks-on g.D.Digest32.hash run stops step c.args.from c.place-begin.result c.args.last
-          c.requires.few c.requires.late at.walk c.leave-walk.result c.to_boundary-walk.result
-          here.place here.pc there.result.place there.result.pc here.is_broken
-          there.result.is_broken at.found c.found_before-found.result looks left.within left.one
+          looks-on _ run stops step _ _ _ c.requires.few c.requires.late c.leave-walk.result
+          c.to_boundary-walk.result looks left.within left.one
           (left.silent run looks.walks) (left.passed run looks.walks fresh) next.within kept
           (next.passes_none run walks-left) (next.ends run walks-left)
           (rw (c.stretch.ensures, c.place.ensures) at c.found_before-found.ensures)
@@ -48,13 +41,7 @@ loop-here-preserved g c =
 
 pub returns-clause-found : goal.returns-clause-found
 returns-clause-found g c = λ run begun before.
-    let stops = c.args.stops.now in
-    let step = step_in c.args.seek.now in
-    let at = c.loop-here in
-    subst
-    (λ (begin : ℕ). IsLastBehind (cause (view_of run) stops (seek_back step c.args.from)) begin
-    c.args.last at.found)
-    at.invariant.begin_is
-    (looks-back g.D.Digest32.hash run stops step c.args.from c.place-begin.result c.args.last
-    c.requires.few at.walk at.here.place at.here.pc at.here.is_broken at.found
-    (at.invariant.looks run begun before) (omega (arith, c.loop-here-test.false)))
+    let looks = c.loop-here in
+    rw looks.invariant.begin_is at
+    (looks-back _ run c.args.stops.now (step_in c.args.seek.now) _ _ _ c.requires.few
+    (looks.invariant.looks run begun before) (omega (arith, c.loop-here-test.false)))

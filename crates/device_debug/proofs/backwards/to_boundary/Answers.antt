@@ -1,6 +1,5 @@
-use Rattle.std.proofs.{Common.{◌≡◌, ◌≤◌, ◌<◌, inr, ⊎_elim, ℕ, false, subst, sym, arith}, lemmas.Bool.cases_lt}
-use Rattle.debug_session.specs.Place.{sight_at}
-use Rattle.debug_walk.specs.Walk.{IsStretch, place_of}
+use Rattle.std.proofs.{Common.{◌≡◌, ◌≤◌, ◌<◌, inr, ⊎_elim, sym, arith}, lemmas.Bool.cases_lt}
+use Rattle.debug_walk.specs.Walk.{place_of}
 use Rattle.device_debug.proofs.backwards.to_boundary.Goals as goal
 
 pub loop-walk-preserved : goal.loop-walk-preserved
@@ -14,18 +13,14 @@ loop-walk-preserved g c =
         omega (arith, next.ensures.place, c.if-place-end.true, c.place.ensures),
       );
       stretch = λ run walks was.
-          subst (λ (place : ℕ). IsStretch c.args.watches.now run place next.result.stretch)
-          (sym next.ensures.place)
+          rw next.ensures.place
           (next.ensures.stretch run (at.invariant.walks run walks)
           (inr (at.invariant.stretch run walks was)));
       passes_none = λ run walks one past before.
-          let here : (sight_at run (place_of at.walk)).boundary ≡ false =
-          sym (c.loop-walk-test.ensures run (at.invariant.walks run walks)) in
           ⊎_elim
           (λ (less : one < place_of at.walk). at.invariant.passes_none run walks one past less)
           (λ (over : place_of at.walk ≤ one).
-          let same : place_of at.walk ≡ one =
-          omega (arith, over, before, next.ensures.place) in
-          subst (λ (place : ℕ). (sight_at run place).boundary ≡ false) same here)
+          let same : one ≡ place_of at.walk = omega (arith, over, before, next.ensures.place) in
+          rw same (sym (c.loop-walk-test.ensures run (at.invariant.walks run walks))))
           (cases_lt one (place_of at.walk));
     }

@@ -6,8 +6,7 @@ use Rattle.device_debug.proofs.debugger.Debugger.keep_request.Goals as goal
 pub returns-in-Until-clause-keeps : goal.returns-in-Until-clause-keeps
 returns-in-Until-clause-keeps g c = λ session stands.
     rw c.in-Until.is
-    (other-stops _ c.args.self.now session _
-    (record session.stops { until = until_of c.in-Until.number })
+    (other-stops _
     (rw (c.set_until.ensures, c.until_of.ensures)
     (ap (λ (one : Stops). record one { until = until_of c.in-Until.number }) stands.stops)) stands)
 

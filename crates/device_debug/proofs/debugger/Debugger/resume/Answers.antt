@@ -28,7 +28,7 @@ returns-in_err-walk-in-Ahead-clause-gives g c =
 
 pub returns-in_err-walk-in-Back-clause-gives : goal.returns-in_err-walk-in-Back-clause-gives
 returns-in_err-walk-in-Back-clause-gives g c =
-    may-fail _ _ _ _ _ _ _ _ _ c.go_back.ensures.came c.from_residual-in_err-walk-in-Back.ensures.0
+    may-fail c.go_back.ensures.came c.from_residual-in_err-walk-in-Back.ensures.0
     (c.go_back.ensures.same_run
     ∙ ap (λ (one : Debugger g.row.D.Denot). one.track.run) c.take_walk.ensures.rest)
 

@@ -5,28 +5,23 @@ use Rattle.device_debug.proofs.debugger.Debugger.show_memory.Goals as goal
 
 pub returns-in_err-put_digits-clause-gives : goal.returns-in_err-put_digits-clause-gives
 returns-in_err-put_digits-clause-gives g c =
-    memory-said _ _ _ _ c.args.self.now c.args.first c.args.size _ c.in_ok-current_walk.field-0.now
-    c.deref.result.now c.shown_bytes.result.items c.if-size-eq0.false
-    (sym c.if-is_shown.ensures) c.deref.ensures.0 c.in_ok-current_walk.ensures.halted
-    c.shown_bytes.ensures
-    (half-given _ _ (encode_lower c.deref.result.now) _
-    c.from_residual-in_err-put_digits.ensures.0 c.in_err-put_digits.ensures.puts.prefix)
+    memory-said c.args.first c.args.size c.if-size-eq0.false (sym c.if-is_shown.ensures)
+    c.deref.ensures.0 c.in_ok-current_walk.ensures.halted c.shown_bytes.ensures
+    (half-given (encode_lower c.deref.result.now) _ c.from_residual-in_err-put_digits.ensures.0
+    c.in_err-put_digits.ensures.puts.prefix)
 
 pub returns-then-size-eq0-clause-gives : goal.returns-then-size-eq0-clause-gives
 returns-then-size-eq0-clause-gives g c =
-    nothing-shown _ _ _ _ c.args.self.now c.args.first c.args.size _ c.if-size-eq0.true
-    c.say.ensures.gives
+    nothing-shown c.args.first c.args.size c.if-size-eq0.true c.say.ensures.gives
 
 pub returns-in_ok-put_digits-clause-gives : goal.returns-in_ok-put_digits-clause-gives
 returns-in_ok-put_digits-clause-gives g c =
-    memory-said _ _ _ _ c.args.self.now c.args.first c.args.size _ c.in_ok-current_walk.field-0.now
-    c.deref.result.now c.shown_bytes.result.items c.if-size-eq0.false
-    (sym c.if-is_shown.ensures) c.deref.ensures.0 c.in_ok-current_walk.ensures.halted
-    c.shown_bytes.ensures
-    (packet-given _ _ (encode_lower c.deref.result.now) _
-    c.in_ok-put_digits.ensures.puts.all c.put_digits.ensures.last)
+    memory-said c.args.first c.args.size c.if-size-eq0.false (sym c.if-is_shown.ensures)
+    c.deref.ensures.0 c.in_ok-current_walk.ensures.halted c.shown_bytes.ensures
+    (packet-given (encode_lower c.deref.result.now) _ c.in_ok-put_digits.ensures.puts.all
+    c.put_digits.ensures.last)
 
 pub returns-else-is_shown-clause-gives : goal.returns-else-is_shown-clause-gives
 returns-else-is_shown-clause-gives g c =
-    secret-refused _ _ _ _ c.args.self.now c.args.first c.args.size _ c.if-size-eq0.false
-    (sym c.if-is_shown.ensures) c.say-else-is_shown.ensures.gives
+    secret-refused c.args.first c.args.size c.if-size-eq0.false (sym c.if-is_shown.ensures)
+    c.say-else-is_shown.ensures.gives

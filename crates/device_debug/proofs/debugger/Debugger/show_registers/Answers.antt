@@ -4,16 +4,12 @@ use Rattle.device_debug.proofs.debugger.Debugger.show_registers.Goals as goal
 
 pub returns-in_err-put_digits-clause-gives : goal.returns-in_err-put_digits-clause-gives
 returns-in_err-put_digits-clause-gives g c =
-    registers-said _ _ _ _ c.args.self.now c.in_ok-current_walk.field-0.now c.deref.result.now
-    c.shown_registers.result.items _ c.deref.ensures.0 c.in_ok-current_walk.ensures.halted
-    c.shown_registers.ensures
-    (half-given _ _ (encode_lower c.deref.result.now) _
-    c.from_residual-in_err-put_digits.ensures.0 c.in_err-put_digits.ensures.puts.prefix)
+    registers-said c.deref.ensures.0 c.in_ok-current_walk.ensures.halted c.shown_registers.ensures
+    (half-given (encode_lower c.deref.result.now) _ c.from_residual-in_err-put_digits.ensures.0
+    c.in_err-put_digits.ensures.puts.prefix)
 
 pub returns-clause-gives : goal.returns-clause-gives
 returns-clause-gives g c =
-    registers-said _ _ _ _ c.args.self.now c.in_ok-current_walk.field-0.now c.deref.result.now
-    c.shown_registers.result.items _ c.deref.ensures.0 c.in_ok-current_walk.ensures.halted
-    c.shown_registers.ensures
-    (packet-given _ _ (encode_lower c.deref.result.now) _
-    c.in_ok-put_digits.ensures.puts.all c.put_digits.ensures.last)
+    registers-said c.deref.ensures.0 c.in_ok-current_walk.ensures.halted c.shown_registers.ensures
+    (packet-given (encode_lower c.deref.result.now) _ c.in_ok-put_digits.ensures.puts.all
+    c.put_digits.ensures.last)

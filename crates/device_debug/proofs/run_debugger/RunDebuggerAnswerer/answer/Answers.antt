@@ -3,5 +3,5 @@ use Rattle.device_debug.proofs.run_debugger.RunDebuggerAnswerer.answer.Goals as 
 
 pub returns-clause-answers : goal.returns-clause-answers
 returns-clause-answers g c =
-    replied _ _ _ _ _ _ c.args.self.now _ c.args.body.now _
+    replied c.args.self.now _ c.args.body.now
     (rw c.read_command.ensures at c.answer.ensures.gives)

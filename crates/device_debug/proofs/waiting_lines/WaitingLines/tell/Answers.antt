@@ -1,34 +1,25 @@
-use Rattle.std.proofs.{Common.{◌∙◌, List, ap, arith, subst}, lemmas.List.take_all}
-use Rattle.debug_link.{specs.Writing.{HasPut, PutsPackets}, proofs.{AddedText.put_none, Faults.counts_unwritten}}
-use Rattle.device_debug.{specs.Telling.{GrownText, bodies_of}, proofs.{Answering.counts-done, ToldTexts.{texts-failed, texts-next}}}
+use Rattle.std.proofs.{Common.{◌∙◌, arith}, lemmas.List.take_all}
+use Rattle.debug_link.proofs.{AddedText.put_none, Faults.counts_unwritten}
+use Rattle.device_debug.proofs.ToldTexts.{texts-failed, texts-next}
 use Rattle.device_debug.proofs.waiting_lines.WaitingLines.tell.Goals as goal
 
 pub loop-text-init : goal.loop-text-init
-loop-text-init g c =
-    record { put = put_none g.W.Sink c.args.packets.now; rises = omega arith }
+loop-text-init g c = record { put = put_none _ _; rises = omega arith }
 
 pub returns-in_err-put_text-clause-tells : goal.returns-in_err-put_text-clause-tells
 returns-in_err-put_text-clause-tells g c =
-    subst (λ (texts : List GrownText). PutsPackets g.W.Sink c.args.packets.now
-    c.put_text.new.packets (bodies_of texts) c.from_residual.result)
-    (c.deref-text-items.ensures.value ∙ c.self.view_is)
-    (texts-failed g.W.Sink c.args.packets.now c.loop-text.packets c.put_text.new.packets
-    c.deref-text-items.result.now c.loop-text.text-index c.text-item.result
-    c.in_err-put_text.field-0.0 c.from_residual.result c.loop-text-test.true c.text-item.is
-    c.from_residual.ensures.0 c.loop-text.invariant.put
-    (rw c.as_slice.ensures at c.in_err-put_text.ensures.puts))
+    rw (c.deref-text-items.ensures.value, c.self.view_is) at
+    (texts-failed _ _ _ c.loop-text-test.true c.text-item.is c.from_residual.ensures.0
+    c.loop-text.invariant.put (rw c.as_slice.ensures at c.in_err-put_text.ensures.puts))
 
 pub returns-in_err-put_text-clause-counts : goal.returns-in_err-put_text-clause-counts
 returns-in_err-put_text-clause-counts g c =
-    counts_unwritten g.W.Sink.faults c.args.packets.now.sink c.loop-text.packets.sink
-    c.put_text.new.packets.sink c.from_residual.result c.loop-text.invariant.rises
+    counts_unwritten _ _ _ _ _ c.loop-text.invariant.rises
     c.in_err-put_text.ensures.counts.failed c.in_err-put_text.ensures.counts.counted
 
 pub loop-text-preserved : goal.loop-text-preserved
 loop-text-preserved g c = record {
-  put = texts-next g.W.Sink c.args.packets.now c.loop-text.packets c.put_text.new.packets
-      c.deref-text-items.result.now c.loop-text.text-index c.text-item.result
-      c.loop-text-test.true c.text-item.is c.loop-text.invariant.put
+  put = texts-next _ _ _ c.loop-text-test.true c.text-item.is c.loop-text.invariant.put
       (rw c.as_slice.ensures at c.in_ok-put_text.ensures.puts.all);
   rises = omega (arith, c.loop-text.invariant.rises, c.in_ok-put_text.ensures.counts.counted);
 }
@@ -37,13 +28,7 @@ pub returns-clause-tells : goal.returns-clause-tells
 returns-clause-tells g c =
     let whole = take_all c.loop-text.text-index c.deref-text-items.result.now
     c.loop-text-test.false ∙ c.deref-text-items.ensures.value ∙ c.self.view_is in
-    record {
-      all = subst (HasPut g.W.Sink c.args.packets.now c.loop-text.packets) (ap bodies_of whole)
-          c.loop-text.invariant.put;
-      prefix = tt;
-    }
+    record { all = rw whole at c.loop-text.invariant.put; prefix = tt }
 
 pub returns-clause-counts : goal.returns-clause-counts
-returns-clause-counts g c =
-    counts-done g.W.Sink.faults c.args.packets.now.sink c.loop-text.packets.sink _
-    c.loop-text.invariant.rises
+returns-clause-counts g c = record { failed = tt; counted = c.loop-text.invariant.rises }
